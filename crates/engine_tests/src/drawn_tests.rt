@@ -380,8 +380,8 @@ impl Double {
         alike
     }
 
-    /// How many drawn jobs were taken alike, with a call that hands on behind a drawn number of them each, and which numbers
-    /// of jobs were held at each kind of these.
+    /// How many drawn jobs were taken alike, with a call that hands on behind a drawn number of them each, and which
+    /// numbers of jobs were held at each kind of these.
     fn jobs_alike<R: Threads + Wait + Abort + Copy + Send + Sync + 'static>(
         &mut self,
         rt: &R,

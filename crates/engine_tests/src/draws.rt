@@ -297,8 +297,8 @@ impl Draws {
         }
     }
 
-    /// An event that the register does itself, mostly, where the regions are these: a piece that is loose is taken first.
-    /// Few parts stay.
+    /// An event that the register does itself, mostly, where the regions are these: a piece that is loose is taken
+    /// first. Few parts stay.
     fn change(&mut self, rt: &impl Abort, regions: &Regions) -> Event {
         if let Some(take) = right_take(regions.list(), self.random.below(2) == 0) {
             return take;
@@ -317,8 +317,8 @@ impl Draws {
         }
     }
 
-    /// A call that hands on what is held, where the regions are these: a settle, a sight, a re-cut, or an event that the
-    /// register does itself.
+    /// A call that hands on what is held, where the regions are these: a settle, a sight, a re-cut, or an event that
+    /// the register does itself.
     pub fn handing_on(&mut self, rt: &impl Abort, regions: &Regions) -> Step {
         match self.random.below(4) {
             0 => Step::Settle,

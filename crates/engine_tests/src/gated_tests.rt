@@ -100,8 +100,8 @@ fn reads_wait_in_the_queue(rt: HostRuntime) {
     assert_eq!(rt; found, (true, false));
 }
 
-/// Asserts the replies to reads of parts with a subscriber each, where all workers but the last part's are held up until
-/// that one has done its second job and yielded so often.
+/// Asserts the replies to reads of parts with a subscriber each, where all workers but the last part's are held up
+/// until that one has done its second job and yielded so often.
 fn expect_second<R: Threads + Wait + Abort + Copy + Send + Sync + 'static>(
     rt: &R,
     alloc: Global,
@@ -194,7 +194,8 @@ fn expect_recut_handed_on<R: Threads + Wait + Abort + Copy + Send + Sync + 'stat
     assert_eq!(rt; (moved, are_right, gate.gave_up()), (Ok(1), true, false));
 }
 
-// Jobs that are held are pushed before the first part is waited for that is called home, also those of parts that aren't.
+// Jobs that are held are pushed before the first part is waited for that is called home, also those of parts that
+// aren't.
 #[test]
 fn held_jobs_go_out_before_a_join(rt: HostRuntime) {
     expect_second(&rt, rt.alloc(), &[1, 100], &[1, 100, 100], 0);
@@ -388,8 +389,8 @@ fn sees_posting<G: Gate + 'static>(engine: &mut Engine<G>) -> bool {
     false
 }
 
-/// Whether a posting of the first part is seen behind reads, while the worker of the second one is held up at one of them,
-/// and the replies to all.
+/// Whether a posting of the first part is seen behind reads, while the worker of the second one is held up at one of
+/// them, and the replies to all.
 fn posts_beside<R: Threads + Wait + Copy + Send + Sync + 'static>(
     rt: &R,
     engine: &mut Engine<Hold>,

@@ -263,8 +263,8 @@ fn sleeping_worker_is_woken(rt: HostRuntime) {
 /// How many reads are submitted one after another, each once the one before is done.
 const SPACED: u64 = 2_000;
 
-/// The replies to reads of subscriber 7, each of which is submitted, and pushed by a sight, once the one before is done,
-/// and up to a millisecond after it: about when its worker, which finds nothing, goes to sleep.
+/// The replies to reads of subscriber 7, each of which is submitted, and pushed by a sight, once the one before is
+/// done, and up to a millisecond after it: about when its worker, which finds nothing, goes to sleep.
 fn reads_spaced<R: Threads + Wait + Clock + Copy + Send + Sync + 'static>(
     rt: &R,
     engine: &mut Engine<Tally>,

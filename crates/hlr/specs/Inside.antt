@@ -209,8 +209,8 @@ pub record HasComeTo (bytes : List ℕ) (P : List (List (List ℕ)) → Type 0) 
   pub are_first : Reached default_config st.StartRecord bytes rows state left
   pub holds : P rows
 
--- how far a run came that ended so, before the last answers are handed on: this holds of the records that were read, and
--- a run stopped so behind them; or the sink failed, and that holds of them
+-- how far a run came that ended so, before the last answers are handed on: this holds of the records that were read,
+-- and a run stopped so behind them; or the sink failed, and that holds of them
 abbrev pub HasCome : (List (List (List ℕ)) → Fault → Type 0) → List ℕ → (List (List (List ℕ)) → Type 0)
     → (List (List (List ℕ)) → Type 0) → Result (Unit {0}) Fault → Type 0
 HasCome stops bytes P broken (Ok done) = HasComeToEnd bytes P

@@ -58,8 +58,8 @@ abbrev pub HasNextEvent : List ℕ → List (List (List ℕ)) → Type 0
 HasNextEvent bytes rows = (fields : List (List ℕ)) × AsksEvent fields × HasNext bytes rows fields
 
 -- why a run over a source answered these records of the bytes and no further one: the read behind them failed; or they
--- are as many as a run may answer, and there is one more; or, with threads, memory or a thread was refused for the event
--- that the next one asks for
+-- are as many as a run may answer, and there is one more; or, with threads, memory or a thread was refused for the
+-- event that the next one asks for
 abbrev pub StopsBehind : {T : Type 0} → (T → Unread) → (T → T → Fault → Type 0) → Bool → List ℕ → T → List (List (List ℕ))
     → Fault → Type 0
 StopsBehind unread fails threads bytes now rows fault.Read =

@@ -17,8 +17,8 @@ use tatp_rows::{Letters, Number, Refusal, Subscriber};
 /// The most bytes that the line of a cell, of a pair or of a region takes.
 pub const SHORT_LINE: usize = 70;
 
-/// The most bytes that are put before it is asked again whether there is room: the lines of all cells, and how many they
-/// are.
+/// The most bytes that are put before it is asked again whether there is room: the lines of all cells, and how many
+/// they are.
 const LINE_ROOM: usize = SHORT_LINE * (CELLS as usize + 1);
 
 /// How many bytes may be there when a line is begun; where there are more, they are handed on first.

@@ -32,8 +32,8 @@ pub record AreTold {S Q F X : Type 0} (IsRead : Q → X → S → ℕ × X → S
   pub each : (at : ℕ) (question : Q) (one : F) (row : X) → at < length asked
       → IsRead (slice_index_or asked at question) row of (told (slice_index_or asked at question) row (slice_index_or found at one)) of
 
--- the places from one up to another have what is told of their questions and of what was found for these; those in front
--- are as before, and so are the rows behind
+-- the places from one up to another have what is told of their questions and of what was found for these; those in
+-- front are as before, and so are the rows behind
 pub record AreWritten {Q F X : Type 0} (told : Q → X → F → ℕ × X) (asked : List Q) (found : List F) (from : ℕ) (old new : List X × List ℕ) (to : ℕ) : Type 0 where
   pub as_many : AreAsMany asked new
   pub behind : (k : ℕ) (row : X) → k < from → (slice_index new.1 k ≡ slice_index old.1 k) × (slice_index_or new.0 k row ≡ slice_index_or old.0 k row)

@@ -33,8 +33,8 @@ IsPartRead act told elsewhere before answer after =
 abbrev pub code_elsewhere : Action → ℕ
 code_elsewhere act = if is_in_range act then ELSEWHERE else code_of Field
 
--- a change of a subscriber of the part, which does it as a job, and refuses a field out of its range; or of another one,
--- and nothing changes
+-- a change of a subscriber of the part, which does it as a job, and refuses a field out of its range; or of another
+-- one, and nothing changes
 abbrev pub IsPartStep : Bool → Action → HoldingState → ℕ → HoldingState → Type 0
 IsPartStep true act before code after = (said : Reply) × IsJobDone (Act act) before said after × (code ≡ code_told said)
 IsPartStep false act before code after = (code ≡ code_elsewhere act) × (after ≡ before)

@@ -51,8 +51,8 @@ fn write_block<Found, Row, Q: Telling<Found, Row>>(
     }
 }
 
-/// Asks the questions from one place up to another, at most 16, side by side, and tells whether it did: where not, no row
-/// or code is written. The list is for what is found.
+/// Asks the questions from one place up to another, at most 16, side by side, and tells whether it did: where not, no
+/// row or code is written. The list is for what is found.
 fn ask_block<Of, Found: Default + Drop, Row, Q: Question<Of, Found, Row>>(
     of: &Of,
     asked: &[Q],

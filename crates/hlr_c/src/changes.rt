@@ -216,9 +216,10 @@ fn set_number(register: &mut Lender, s_id: u64, sub_nbr: u64) -> u8
     code_of_change(register.set_number(s_id, sub_nbr))
 }
 
-/// UPDATE_SUBSCRIBER_DATA (TATP, section 3.4): sets bit_1 of the subscriber and data_a of the facility, or neither.
-/// `NOT_OPEN`, `Field` where s_id isn't in 1..=16,777,216, sf_type in 1..=4, bit_1 in 0..=1 or data_a in 0..=255,
-/// `Moving`, `AWAY` where the part is out that has the subscriber, `NoSubscriber`, `NoFacility`.
+/// Does UPDATE_SUBSCRIBER_DATA (TATP, section 3.4): sets bit_1 of the subscriber and data_a of the facility, or
+/// neither. `NOT_OPEN`, `Field` where s_id isn't in 1..=16,777,216, sf_type isn't in 1..=4, bit_1 isn't in 0..=1 or
+/// data_a isn't in 0..=255, `Moving`, `AWAY` where the part is out that has the subscriber, `NoSubscriber`,
+/// `NoFacility`.
 #[unsafe(no_mangle)]
 pub extern "C" fn hlr_update_subscriber(
     alloc: Global,
@@ -236,8 +237,8 @@ pub extern "C" fn hlr_update_subscriber(
     })
 }
 
-/// UPDATE_LOCATION (TATP, section 3.5): moves the subscriber with a number. `NOT_OPEN`, `Field` where sub_nbr isn't
-/// below 10^15 or vlr_location isn't in 1..=4,294,967,295, `NoNumber`, `Moving`, `AWAY`.
+/// Does UPDATE_LOCATION (TATP, section 3.5): moves the subscriber with a number. `NOT_OPEN`, `Field` where sub_nbr
+/// isn't below 10^15 or vlr_location isn't in 1..=4,294,967,295, `NoNumber`, `Moving`, `AWAY`.
 #[unsafe(no_mangle)]
 pub extern "C" fn hlr_update_location(
     alloc: Global,
@@ -253,9 +254,9 @@ pub extern "C" fn hlr_update_location(
     })
 }
 
-/// INSERT_CALL_FORWARDING (TATP, section 3.6): adds a forwarding to a number. `NOT_OPEN`, `Field` where a number isn't
-/// below 10^15, sf_type isn't in 1..=4, start_time isn't 0, 8 or 16 or end_time isn't in 1..=24, `NoNumber`, `Moving`,
-/// `AWAY`, `NoFacility`, `Exists`, `Memory`.
+/// Does INSERT_CALL_FORWARDING (TATP, section 3.6): adds a forwarding to a number. `NOT_OPEN`, `Field` where a number
+/// isn't below 10^15, sf_type isn't in 1..=4, start_time isn't 0, 8 or 16 or end_time isn't in 1..=24, `NoNumber`,
+/// `Moving`, `AWAY`, `NoFacility`, `Exists`, `Memory`.
 #[unsafe(no_mangle)]
 pub extern "C" fn hlr_insert_forwarding(
     alloc: Global,
@@ -281,9 +282,8 @@ pub extern "C" fn hlr_insert_forwarding(
     })
 }
 
-/// DELETE_CALL_FORWARDING (TATP, section 3.7): takes a forwarding away. `NOT_OPEN`, `Field` where sub_nbr isn't below
-/// 10^15, sf_type isn't in 1..=4 or start_time isn't 0, 8 or 16, `NoNumber`, `Moving`, `AWAY`,
-/// `NoForwarding`.
+/// Does DELETE_CALL_FORWARDING (TATP, section 3.7): takes a forwarding away. `NOT_OPEN`, `Field` where sub_nbr isn't
+/// below 10^15, sf_type isn't in 1..=4 or start_time isn't 0, 8 or 16, `NoNumber`, `Moving`, `AWAY`, `NoForwarding`.
 #[unsafe(no_mangle)]
 pub extern "C" fn hlr_delete_forwarding(
     alloc: Global,
@@ -335,7 +335,7 @@ pub extern "C" fn hlr_add_facility(alloc: Global, handle: &mut Hlr, row: &HlrFac
 }
 
 /// Switches a facility on or off, and with it all its forwardings. `NOT_OPEN`, `Field` where s_id isn't in
-/// 1..=16,777,216, sf_type in 1..=4 or is_active in 0..=1, `Moving`, `AWAY`, `NoFacility`.
+/// 1..=16,777,216, sf_type isn't in 1..=4 or is_active isn't in 0..=1, `Moving`, `AWAY`, `NoFacility`.
 #[unsafe(no_mangle)]
 pub extern "C" fn hlr_set_active(
     alloc: Global,

@@ -23,8 +23,8 @@ macro_rules! with_register {
     }};
 }
 
-/// Works on the register of an open handle where all its parts are at home, as `with_register`. Where one is out it ends
-/// the call with `AWAY`.
+/// Works on the register of an open handle where all its parts are at home, as `with_register`. Where one is out it
+/// ends the call with `AWAY`.
 macro_rules! with_register_at_home {
     ($handle:ident, $alloc:ident, |$register:ident| $work:expr) => {{
         let Some(lender) = $handle.take($alloc) else {

@@ -41,8 +41,8 @@ fn back(register: &mut Lender, part: u64) -> u8
     AWAY
 }
 
-/// Lends a part to a closed handle, for whatever thread. `NOT_OPEN`, `STILL_OPEN` where that handle has a part, `NoPart`,
-/// `AWAY` where the part is out, `Memory`: each changes nothing.
+/// Lends a part to a closed handle, for whatever thread. `NOT_OPEN`, `STILL_OPEN` where that handle has a part,
+/// `NoPart`, `AWAY` where the part is out, `Memory`: each changes nothing.
 #[unsafe(no_mangle)]
 pub extern "C" fn hlr_lend(alloc: Global, handle: &mut Hlr, part: u64, owner: &mut HlrPart) -> u8
     ensures { IsLending part (handle.old.kept.register, owner.old.kept.part) result (handle.new.kept.register, owner.new.kept.part) }

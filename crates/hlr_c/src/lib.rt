@@ -3,11 +3,11 @@
 //! part is out. C keeps the handles, so no prover sees that no two threads use one at once: `hlr.h`, which declares all
 //! calls, says what else C owes.
 //!
-//! All calls take a handle, `Hlr` or `HlrPart`, by reference, and answer a code: `DONE`, a refusal's (`Refusal::code`), or
-//! one of their own: `STILL_OPEN` of `hlr_open` and `hlr_lend`, where the handle to be opened has something, `NOT_OPEN` of
-//! all others, where the handle has nothing, `AWAY` where a part is out on which a call works, and `ELSEWHERE` of a part's
-//! calls, where the subscriber isn't its own. Every number that C hands in is checked. What a call reads it writes by
-//! reference, and only where its code is `DONE`.
+//! All calls take a handle, `Hlr` or `HlrPart`, by reference, and answer a code: `DONE`, a refusal's (`Refusal::code`),
+//! or one of their own: `STILL_OPEN` of `hlr_open` and `hlr_lend`, where the handle to be opened has something,
+//! `NOT_OPEN` of all others, where the handle has nothing, `AWAY` where a part is out on which a call works, and
+//! `ELSEWHERE` of a part's calls, where the subscriber isn't its own. Every number that C hands in is checked. What a
+//! call reads it writes by reference, and only where its code is `DONE`.
 #![tactic(auto)]
 
 mod asking;

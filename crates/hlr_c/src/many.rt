@@ -138,8 +138,8 @@ impl Question<Lender, ArrayVec<Number, 3>, HlrNumbers> for HlrDestinationAsked {
     }
 }
 
-/// GET_SUBSCRIBER_DATA of many subscribers: writes in each place the code and the row that the call for one answers.
-/// `NOT_OPEN`, `Field` where there aren't as many rows and codes as s_ids: nothing is written.
+/// Does GET_SUBSCRIBER_DATA of many subscribers: writes in each place the code and the row that the call for one
+/// answers. `NOT_OPEN`, `Field` where there aren't as many rows and codes as s_ids: nothing is written.
 #[unsafe(no_mangle)]
 pub extern "C" fn hlr_subscriber_data_many(
     alloc: Global,
@@ -156,8 +156,8 @@ pub extern "C" fn hlr_subscriber_data_many(
     })
 }
 
-/// GET_ACCESS_DATA of many accesses: writes in each place the code and the row that the call for one answers. `NOT_OPEN`,
-/// `Field` where there aren't as many rows and codes as accesses: nothing is written.
+/// Does GET_ACCESS_DATA of many accesses: writes in each place the code and the row that the call for one answers.
+/// `NOT_OPEN`, `Field` where there aren't as many rows and codes as accesses: nothing is written.
 #[unsafe(no_mangle)]
 pub extern "C" fn hlr_access_data_many(
     alloc: Global,
@@ -174,8 +174,8 @@ pub extern "C" fn hlr_access_data_many(
     })
 }
 
-/// GET_NEW_DESTINATION of many: writes in each place the code and the numbers that the call for one answers. `NOT_OPEN`,
-/// `Field` where there aren't as many numbers and codes as questions: nothing is written.
+/// Does GET_NEW_DESTINATION of many: writes in each place the code and the numbers that the call for one answers.
+/// `NOT_OPEN`, `Field` where there aren't as many numbers and codes as questions: nothing is written.
 #[unsafe(no_mangle)]
 pub extern "C" fn hlr_new_destination_many(
     alloc: Global,

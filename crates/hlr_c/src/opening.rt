@@ -11,7 +11,8 @@ use hlr_core::{Refusal, Register};
 use hlr_lent::Lender;
 use std::alloc::Global;
 
-/// An empty register in a box, all of whose parts are at home. `Field` where parts isn't in 1..=16 or the width isn't in 1..=524,288; `Memory`.
+/// An empty register in a box, all of whose parts are at home. `Field` where parts isn't in 1..=16 or the width isn't
+/// in 1..=524,288; `Memory`.
 fn open_boxed(alloc: Global, parts: u64, width: u64) -> Result<Box<Lender>, Refusal>
     ensures ok { IfOk result (λ register. HasOpening parts width × (store_in register.value ≡ opening parts width)) }
     ensures home { IfOk result (λ register. AllHome register.value.owners) }

@@ -196,9 +196,9 @@ fn post(part: &mut Owner, limit: u64, posted: &mut u64) -> u8
     }
 }
 
-/// UPDATE_SUBSCRIBER_DATA (TATP, section 3.4) of a part that is out. `NOT_OPEN`, `Field` where s_id isn't in
-/// 1..=16,777,216, sf_type in 1..=4, bit_1 in 0..=1 or data_a in 0..=255, `ELSEWHERE` where s_id isn't in the part's range,
-/// `NoSubscriber`, `NoFacility`.
+/// Does UPDATE_SUBSCRIBER_DATA (TATP, section 3.4) of a part that is out. `NOT_OPEN`, `Field` where s_id isn't in
+/// 1..=16,777,216, sf_type isn't in 1..=4, bit_1 isn't in 0..=1 or data_a isn't in 0..=255, `ELSEWHERE` where s_id
+/// isn't in the part's range, `NoSubscriber`, `NoFacility`.
 #[unsafe(no_mangle)]
 pub extern "C" fn hlr_part_update_subscriber(
     alloc: Global,
@@ -216,7 +216,7 @@ pub extern "C" fn hlr_part_update_subscriber(
     })
 }
 
-/// UPDATE_LOCATION (TATP, section 3.5) of a part that is out, by s_id. `NOT_OPEN`, `Field` where s_id isn't in
+/// Does UPDATE_LOCATION (TATP, section 3.5) of a part that is out, by s_id. `NOT_OPEN`, `Field` where s_id isn't in
 /// 1..=16,777,216 or vlr_location isn't in 1..=4,294,967,295, `ELSEWHERE`, `NoSubscriber`.
 #[unsafe(no_mangle)]
 pub extern "C" fn hlr_part_update_location(
@@ -233,9 +233,9 @@ pub extern "C" fn hlr_part_update_location(
     })
 }
 
-/// INSERT_CALL_FORWARDING (TATP, section 3.6) of a part that is out, by s_id. `NOT_OPEN`, `Field` where s_id isn't in
-/// 1..=16,777,216, sf_type isn't in 1..=4, start_time isn't 0, 8 or 16, end_time isn't in 1..=24 or numberx isn't below
-/// 10^15, `ELSEWHERE`, `NoFacility`, `Exists`, `Memory`.
+/// Does INSERT_CALL_FORWARDING (TATP, section 3.6) of a part that is out, by s_id. `NOT_OPEN`, `Field` where s_id isn't
+/// in 1..=16,777,216, sf_type isn't in 1..=4, start_time isn't 0, 8 or 16, end_time isn't in 1..=24 or numberx isn't
+/// below 10^15, `ELSEWHERE`, `NoFacility`, `Exists`, `Memory`.
 #[unsafe(no_mangle)]
 pub extern "C" fn hlr_part_insert_forwarding(
     alloc: Global,
@@ -254,8 +254,8 @@ pub extern "C" fn hlr_part_insert_forwarding(
     })
 }
 
-/// DELETE_CALL_FORWARDING (TATP, section 3.7) of a part that is out, by s_id. `NOT_OPEN`, `Field` where s_id isn't in
-/// 1..=16,777,216, sf_type isn't in 1..=4 or start_time isn't 0, 8 or 16, `ELSEWHERE`, `NoForwarding`.
+/// Does DELETE_CALL_FORWARDING (TATP, section 3.7) of a part that is out, by s_id. `NOT_OPEN`, `Field` where s_id isn't
+/// in 1..=16,777,216, sf_type isn't in 1..=4 or start_time isn't 0, 8 or 16, `ELSEWHERE`, `NoForwarding`.
 #[unsafe(no_mangle)]
 pub extern "C" fn hlr_part_delete_forwarding(
     alloc: Global,
@@ -273,7 +273,7 @@ pub extern "C" fn hlr_part_delete_forwarding(
 }
 
 /// Switches a facility of a part that is out on or off, and with it all its forwardings. `NOT_OPEN`, `Field` where s_id
-/// isn't in 1..=16,777,216, sf_type in 1..=4 or is_active in 0..=1, `ELSEWHERE`, `NoFacility`.
+/// isn't in 1..=16,777,216, sf_type isn't in 1..=4 or is_active isn't in 0..=1, `ELSEWHERE`, `NoFacility`.
 #[unsafe(no_mangle)]
 pub extern "C" fn hlr_part_set_active(
     alloc: Global,
@@ -300,8 +300,8 @@ pub extern "C" fn hlr_part_add_access(alloc: Global, owner: &mut HlrPart, row: &
     with_part!(owner, alloc, |part| { add_access(&mut part, row) })
 }
 
-/// Adds a Special_Facility row to a part that is out. `NOT_OPEN`, `Field` where a field is out of its range, `ELSEWHERE`,
-/// `NoSubscriber`, `Exists`, `Memory`.
+/// Adds a Special_Facility row to a part that is out. `NOT_OPEN`, `Field` where a field is out of its range,
+/// `ELSEWHERE`, `NoSubscriber`, `Exists`, `Memory`.
 #[unsafe(no_mangle)]
 pub extern "C" fn hlr_part_add_facility(alloc: Global, owner: &mut HlrPart, row: &HlrFacility) -> u8
     ensures { IsCall NOT_OPEN (IsPartEdit (part_facility_asked row.now))

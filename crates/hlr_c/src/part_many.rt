@@ -145,8 +145,8 @@ impl Question<Owner, ArrayVec<Number, 3>, HlrNumbers> for HlrDestinationAsked {
     }
 }
 
-/// GET_SUBSCRIBER_DATA of many subscribers: writes in each place the code and the row that the part's call for one answers.
-/// `NOT_OPEN`, `Field` where there aren't as many rows and codes as s_ids: nothing is written.
+/// Does GET_SUBSCRIBER_DATA of many subscribers: writes in each place the code and the row that the part's call for one
+/// answers. `NOT_OPEN`, `Field` where there aren't as many rows and codes as s_ids: nothing is written.
 #[unsafe(no_mangle)]
 pub extern "C" fn hlr_part_subscriber_data_many(
     alloc: Global,
@@ -163,7 +163,7 @@ pub extern "C" fn hlr_part_subscriber_data_many(
     })
 }
 
-/// GET_ACCESS_DATA of many accesses, in the same way. `NOT_OPEN`, `Field`.
+/// Does GET_ACCESS_DATA of many accesses, in the same way. `NOT_OPEN`, `Field`.
 #[unsafe(no_mangle)]
 pub extern "C" fn hlr_part_access_data_many(
     alloc: Global,
@@ -180,7 +180,7 @@ pub extern "C" fn hlr_part_access_data_many(
     })
 }
 
-/// GET_NEW_DESTINATION of many, in the same way. `NOT_OPEN`, `Field`.
+/// Does GET_NEW_DESTINATION of many, in the same way. `NOT_OPEN`, `Field`.
 #[unsafe(no_mangle)]
 pub extern "C" fn hlr_part_new_destination_many(
     alloc: Global,

@@ -87,8 +87,8 @@ pub extern "C" fn hlr_part_range(
     })
 }
 
-/// GET_SUBSCRIBER_DATA (TATP, section 3.1) of a part that is out. `NOT_OPEN`, `Field` where s_id isn't in 1..=16,777,216,
-/// `ELSEWHERE` where it isn't in the part's range, `NoSubscriber`.
+/// Does GET_SUBSCRIBER_DATA (TATP, section 3.1) of a part that is out. `NOT_OPEN`, `Field` where s_id isn't in
+/// 1..=16,777,216, `ELSEWHERE` where it isn't in the part's range, `NoSubscriber`.
 #[unsafe(no_mangle)]
 pub extern "C" fn hlr_part_subscriber_data(
     alloc: Global,
@@ -102,8 +102,8 @@ pub extern "C" fn hlr_part_subscriber_data(
     with_part!(owner, alloc, |part| { read_subscriber(&part, s_id, row) })
 }
 
-/// GET_ACCESS_DATA (TATP, section 3.3) of a part that is out. `NOT_OPEN`, `Field` where s_id isn't in 1..=16,777,216 or
-/// ai_type isn't in 1..=4, `ELSEWHERE`, `NoAccess`.
+/// Does GET_ACCESS_DATA (TATP, section 3.3) of a part that is out. `NOT_OPEN`, `Field` where s_id isn't in
+/// 1..=16,777,216 or ai_type isn't in 1..=4, `ELSEWHERE`, `NoAccess`.
 #[unsafe(no_mangle)]
 pub extern "C" fn hlr_part_access_data(
     alloc: Global,
@@ -120,8 +120,9 @@ pub extern "C" fn hlr_part_access_data(
     })
 }
 
-/// GET_NEW_DESTINATION (TATP, section 3.2) of a part that is out. `NOT_OPEN`, `Field` where s_id isn't in 1..=16,777,216,
-/// sf_type isn't in 1..=4, start_time isn't 0, 8 or 16 or end_time isn't in 1..=24, `ELSEWHERE`, `NoDestination`.
+/// Does GET_NEW_DESTINATION (TATP, section 3.2) of a part that is out. `NOT_OPEN`, `Field` where s_id isn't in
+/// 1..=16,777,216, sf_type isn't in 1..=4, start_time isn't 0, 8 or 16 or end_time isn't in 1..=24, `ELSEWHERE`,
+/// `NoDestination`.
 #[unsafe(no_mangle)]
 pub extern "C" fn hlr_part_new_destination(
     alloc: Global,

@@ -214,8 +214,8 @@ pub extern "C" fn hlr_divide(
 }
 
 /// Dissolves a part: the part in front has its rows, and later parts' numbers fall by one; tells the part in front, as
-/// it is then. `NOT_OPEN`, `NoPart`, `NotAdjacent` where it is the first part or a loose piece lies between, `AWAY` where
-/// the part in front, it or a later one is out, `Memory`.
+/// it is then. `NOT_OPEN`, `NoPart`, `NotAdjacent` where it is the first part or a loose piece lies between, `AWAY`
+/// where the part in front, it or a later one is out, `Memory`.
 #[unsafe(no_mangle)]
 pub extern "C" fn hlr_dissolve(
     alloc: Global,
@@ -233,8 +233,8 @@ pub extern "C" fn hlr_dissolve(
 
 /// Moves the bounds between parts to these, the first subscriber of each part but the first, and tells how many were
 /// moved. `NOT_OPEN`, `Field` where the bounds aren't strictly rising ones in 2..=16,777,216, one less than there are
-/// parts, `Moving` where a piece is loose, `AWAY` where a bound would move between parts one of which is out, `Memory`, after which the moves that were done stand, and the piece of the
-/// move that was refused may be loose.
+/// parts, `Moving` where a piece is loose, `AWAY` where a bound would move between parts one of which is out, `Memory`,
+/// after which the moves that were done stand, and the piece of the move that was refused may be loose.
 #[unsafe(no_mangle)]
 pub extern "C" fn hlr_recut(
     alloc: Global,

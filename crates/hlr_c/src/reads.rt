@@ -208,7 +208,7 @@ pub(crate) fn ask_destinations(
     )
 }
 
-/// GET_SUBSCRIBER_DATA (TATP, section 3.1): the row of a subscriber. `NOT_OPEN`, `Field` where s_id isn't in
+/// Does GET_SUBSCRIBER_DATA (TATP, section 3.1): the row of a subscriber. `NOT_OPEN`, `Field` where s_id isn't in
 /// 1..=16,777,216, `Moving`, `AWAY` where the part is out that has the subscriber, `NoSubscriber`.
 #[unsafe(no_mangle)]
 pub extern "C" fn hlr_subscriber_data(
@@ -225,8 +225,8 @@ pub extern "C" fn hlr_subscriber_data(
     })
 }
 
-/// GET_ACCESS_DATA (TATP, section 3.3): the row of an access. `NOT_OPEN`, `Field` where s_id isn't in 1..=16,777,216 or
-/// ai_type isn't in 1..=4, `Moving`, `AWAY`, `NoAccess`.
+/// Does GET_ACCESS_DATA (TATP, section 3.3): the row of an access. `NOT_OPEN`, `Field` where s_id isn't in
+/// 1..=16,777,216 or ai_type isn't in 1..=4, `Moving`, `AWAY`, `NoAccess`.
 #[unsafe(no_mangle)]
 pub extern "C" fn hlr_access_data(
     alloc: Global,
@@ -243,9 +243,9 @@ pub extern "C" fn hlr_access_data(
     })
 }
 
-/// GET_NEW_DESTINATION (TATP, section 3.2): the numbers that an active facility forwards to, of its forwardings that
-/// start by start_time and end after end_time. `NOT_OPEN`, `Field` where s_id isn't in 1..=16,777,216, sf_type isn't in
-/// 1..=4, start_time isn't 0, 8 or 16 or end_time isn't in 1..=24, `Moving`, `AWAY`, `NoDestination`.
+/// Does GET_NEW_DESTINATION (TATP, section 3.2): the numbers that an active facility forwards to, of its forwardings
+/// that start by start_time and end after end_time. `NOT_OPEN`, `Field` where s_id isn't in 1..=16,777,216, sf_type
+/// isn't in 1..=4, start_time isn't 0, 8 or 16 or end_time isn't in 1..=24, `Moving`, `AWAY`, `NoDestination`.
 #[unsafe(no_mangle)]
 pub extern "C" fn hlr_new_destination(
     alloc: Global,

@@ -1,5 +1,5 @@
 -- A holding that was lent, and acted and posted outside, may come home.
-use Rattle.hlr_core.proofs.Common.{◌≡◌, ◌∙◌, refl, ap, ℕ, zero, suc, List, [], ◌∷◌, map, set, true, false, Some, None, slice_get, IsOutcome, PartState, Action, RowReply, Station, HoldingState, OwnersState, IsLent, RegionOwner, Part, number_pair, IsBackWith, given_number}
+use Rattle.hlr_core.proofs.Common.{◌≡◌, ◌∙◌, refl, ap, ℕ, zero, suc, List, [], ◌∷◌, map, set, true, false, Some, None, slice_get, IsOutcome, PartState, Action, RowReply, DeskState, HoldingState, OwnersState, IsLent, RegionOwner, Part, number_pair, IsBackWith, given_number}
 use Rattle.hlr_core.proofs.LaterLemmas.{outcome_numbers}
 
 -- after an action that gives no number, and a posting
@@ -15,8 +15,8 @@ module _ (had done k : HoldingState) where
         lo = ap (λ (p : PartState). p.lo) part ∙ range.0;
         hi = ap (λ (p : PartState). p.hi) part ∙ range.1;
         width = ap (λ (p : PartState). p.width) part ∙ range.2;
-        board = board ∙ ap (λ (d : Station). d.board) desk;
-        owned = owned ∙ ap (λ (d : Station). d.view.owned) desk;
+        board = board ∙ ap (λ (d : DeskState). d.board) desk;
+        owned = owned ∙ ap (λ (d : DeskState). d.view.owned) desk;
       },
     ),
     ap (λ (p : PartState). map number_pair p.book.subscribers) part ∙ outcome_numbers act had.part.book done.part.book answer none outcome,

@@ -95,12 +95,12 @@ pub use Rattle.tatp_rows.specs.Rows.{AccessInfoRow, SpecialFacilityRow, Subscrib
 pub use Rattle.tatp_rows.specs.declared.ranges.TheConstants.{LAST_SUBSCRIBER}
 pub use Rattle.tatp_rows.specs.declared.refusal.Refusal.{Refusal}
 pub use Rattle.tatp_rows.specs.declared.refusal.Refusal.TheVariants.{Memory, NumberTaken}
-pub use Rattle.view_board.specs.Desks.{Station}
+pub use Rattle.view_board.specs.Desks.{DeskState}
 pub use Rattle.view_board.specs.Words.{minus_word, plus_word}
 pub use Rattle.hlr_core.specs.Gather.{IsRefusedWhole, rows_of_all}
 pub use Rattle.hlr_core.specs.Home.{AreHome, AreHomesAfter, HaveSameHomes, IsBearerHome, IsHomeTo, IsLaterDesk}
 pub use Rattle.hlr_core.specs.Index.{IsRegister, index_of, number_pair}
-pub use Rattle.hlr_core.specs.Inside.Asked.{IsActionStep, IsAsked, IsRowAction, IsRowStep, IsRowStepWhileOut, action_asked}
+pub use Rattle.hlr_core.specs.Inside.Asked.{IsAsked, IsRowAction, IsRowStep, IsRowStepWhileOut, action_asked}
 pub use Rattle.hlr_core.specs.Inside.Noted.{AreNoted, HasTwin, IsIndexed, bears}
 pub use Rattle.hlr_core.specs.Inside.Routed.{AsksFor, IsOn}
 pub use Rattle.hlr_core.specs.Kept.{IsSameAtHome, is_kept, is_lasting, is_on_rows, kept_answers, kept_orders}

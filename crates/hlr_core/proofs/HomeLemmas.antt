@@ -1,5 +1,5 @@
 -- Whoever an event needs is at home where all are, and where the one is whom its action needs.
-use Rattle.hlr_core.proofs.Common.{◌≡◌, ◌∙◌, arith, refl, sym, ap, ℕ, zero, suc, ◌+◌, ◌-◌, List, [], ◌∷◌, Bool, true, inl, inr, Option, Some, None, Ok, Err, ◌⊎◌, IfOk, IfSome, insert, option_map, remove, AllByRecursion, Refusal, s_id_of, Action, Station, outs_in, IsWithNew, IsWithout, AllHome, IsHomeFor, IsHomeFrom, OwnersState, book_in, homes_in, home_of_all, part_home_of_all, IsBearerHome, IsHomeTo, AreHomesAfter, IsLaterDesk, HaveSameHomes, IsAsked, action_asked, bearer_id, Event, UpdateLocation, InsertForwarding, DeleteForwarding, Post, Give, Take, Divide, Dissolve, Reply, Result}
+use Rattle.hlr_core.proofs.Common.{◌≡◌, ◌∙◌, arith, refl, sym, ap, ℕ, zero, suc, ◌+◌, ◌-◌, List, [], ◌∷◌, Bool, true, inl, inr, Option, Some, None, Ok, Err, ◌⊎◌, IfOk, IfSome, insert, option_map, remove, AllByRecursion, Refusal, s_id_of, Action, DeskState, outs_in, IsWithNew, IsWithout, AllHome, IsHomeFor, IsHomeFrom, OwnersState, book_in, homes_in, home_of_all, part_home_of_all, IsBearerHome, IsHomeTo, AreHomesAfter, IsLaterDesk, HaveSameHomes, IsAsked, action_asked, bearer_id, Event, UpdateLocation, InsertForwarding, DeleteForwarding, Post, Give, Take, Divide, Dissolve, Reply, Result}
 use Rattle.hlr_core.proofs.PartsLemmas.{trues_each, trues_to}
 use Rattle.hlr_core.specs.declared.event.Reply.TheVariants as reply
 
@@ -80,7 +80,7 @@ homes_moves (Dissolve part) (reply.Dissolved front lo hi) before after homes = i
 homes_moves _ _ before after homes = inl homes
 
 -- the desk of the free slots is a later one where it stays, gives a slot up or takes one in
-pub desk_same : (before after : Station) → after ≡ before → IsLaterDesk before after
+pub desk_same : (before after : DeskState) → after ≡ before → IsLaterDesk before after
 desk_same before after same = rw same (record { board = refl; seen = λ w. omega arith })
 
 pub desk_kept : (before after : OwnersState) → HaveSameHomes before after → IsLaterDesk before.spare after.spare
@@ -90,7 +90,7 @@ desk_with_new : (part : ℕ) (before after : OwnersState) → IsWithNew part bef
 desk_with_new part before after new = rw (new.spare) (record { board = refl; seen = λ w. omega arith })
 
 desk_without : (part : ℕ) (before after : OwnersState) → IsWithout part before after → IsLaterDesk before.spare after.spare
-desk_without part before after gone = record { board = ap (λ (d : Station). d.board) gone.spare; seen = gone.seen }
+desk_without part before after gone = record { board = ap (λ (d : DeskState). d.board) gone.spare; seen = gone.seen }
 
 -- after an event all are at home where all were, and that desk is a later one
 after_event : (event : Event) (answer : Reply) (before after : OwnersState) → AreHomesAfter event answer before after
@@ -110,7 +110,7 @@ pub desk_after : (event : Event) (answer : Reply) (before after : OwnersState) �
 desk_after event answer before after homes = (after_event event answer before after homes).1
 
 -- one after another
-pub desk_later : (a b c : Station) → IsLaterDesk a b → IsLaterDesk b c → IsLaterDesk a c
+pub desk_later : (a b c : DeskState) → IsLaterDesk a b → IsLaterDesk b c → IsLaterDesk a c
 desk_later a b c one two = record {
   board = two.board ∙ one.board;
   seen = λ w. let first = one.seen w in let second = two.seen w in omega (arith, first, second);

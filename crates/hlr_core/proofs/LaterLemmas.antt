@@ -1,5 +1,5 @@
 -- A register with owners that stand for others keeps its rules, with the same index.
-use Rattle.hlr_core.proofs.Common.{◌≡◌, ◌∙◌, ◌+◌, refl, sym, ap, ℕ, zero, suc, List, [], ◌∷◌, set, map, inl, inr, Bool, true, false, Some, None, option_map, slice_get, AllZip, map-append, key_of, SubscriberRow, IsOutcome, effect, Book, IsRowsOf, subscriber_at, PartState, Action, RowReply, Region, Station, HoldingState, IsHolding, Job, Act, PartOwnerState, OwnersState, AreOwners, IsLaterOwner, state_of, states_in, book_in, RegionOwner, Part, holding_keeps, later_self, ruled_later, state_rows, zip_weaker, owned, LAST_SUBSCRIBER, IsAnswered, number_pair, IsRegister, IsLater, AreLater, IsBackWith, with_owners, bearer_id, IsJobDone, IsJobOf, IsDoneAt, given_number, Reply}
+use Rattle.hlr_core.proofs.Common.{◌≡◌, ◌∙◌, ◌+◌, refl, sym, ap, ℕ, zero, suc, List, [], ◌∷◌, set, map, inl, inr, Bool, true, false, Some, None, option_map, slice_get, AllZip, map-append, key_of, SubscriberRow, IsOutcome, effect, Book, IsRowsOf, subscriber_at, PartState, Action, RowReply, Region, DeskState, HoldingState, IsHolding, Job, Act, PartOwnerState, OwnersState, AreOwners, IsLaterOwner, state_of, states_in, book_in, RegionOwner, Part, holding_keeps, later_self, ruled_later, state_rows, zip_weaker, owned, LAST_SUBSCRIBER, IsAnswered, number_pair, IsRegister, IsLater, AreLater, IsBackWith, with_owners, bearer_id, IsJobDone, IsJobOf, IsDoneAt, given_number, Reply}
 use Rattle.holding.specs.declared.job.Job.TheVariants.{Post}
 use Rattle.hlr_owners.specs.declared.part_owner.RegionOwner.TheVariants.{Piece}
 use Rattle.hlr_core.proofs.PairsLemmas.{HaveSame, effect_shaped, have_same, outcome_book, same_registered}
@@ -33,8 +33,8 @@ job_later regions p (Act act) l m answer of done = record {
       lo = done.range.0;
       hi = done.range.1;
       width = done.range.2;
-      board = ap (λ (desk : Station). desk.board) done.desk.0;
-      owned = ap (λ (desk : Station). desk.view.owned) done.desk.0;
+      board = ap (λ (desk : DeskState). desk.board) done.desk.0;
+      owned = ap (λ (desk : DeskState). desk.view.owned) done.desk.0;
     },
     λ lawful. holding_keeps m.holding done.rules,
     λ wide. done.rules.wide,

@@ -1,5 +1,5 @@
 -- What is read where its row lies is a right step.
-use Rattle.hlr_core.proofs.Common.{◌≡◌, refl, None, Result, IfOk, IfErr, MatchResult, Refusal, is_in_range, Action, RowReply, IsReadWhileOut, with_outs, IsRead, OwnersState, store_in, Store, IsStepWhileOut, register_with, IsActionStep, IsRowStepWhileOut, IsStep, given_number, reply_of, Event, Reply, Ok, Err, Some}
+use Rattle.hlr_core.proofs.Common.{◌≡◌, refl, None, Result, IfOk, IfErr, MatchResult, Refusal, is_in_range, Action, RowReply, IsReadWhileOut, with_outs, IsRead, OwnersState, store_in, Store, IsStepWhileOut, register_with, IsRowStep, IsRowStepWhileOut, IsStep, given_number, reply_of, Event, Reply, Ok, Err, Some}
 use Rattle.tatp_actions.specs.declared.action.RowReply.TheVariants as row_reply
 use Rattle.hlr_core.specs.declared.event.Reply.TheVariants as reply
 use Rattle.hlr_core.proofs.WhileOutLemmas.{own_step}
@@ -7,7 +7,7 @@ use Rattle.hlr_core.proofs.LaterLemmas.{each_owner}
 use Rattle.hlr_core.proofs.RegisterLemmas.{asked_step}
 
 -- what is read is a right step, which changes nothing
-pub read_step : (act : Action) (store : Store) (answer : RowReply) → given_number act ≡ None → IsRead act store answer → IsActionStep act store (reply_of answer) store
+pub read_step : (act : Action) (store : Store) (answer : RowReply) → given_number act ≡ None → IsRead act store answer → IsRowStep (is_in_range act) (Some act) store (reply_of answer) store
 read_step act store answer gives read = asked_step (is_in_range act) (Some act) act store store answer (reply_of answer) gives (refl, refl) read refl refl
 
 -- so it is whatever the holdings that are out have become

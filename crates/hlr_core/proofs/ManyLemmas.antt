@@ -1,5 +1,5 @@
 -- Rows of many subscribers at once.
-use Rattle.hlr_core.proofs.Common.{◌≡◌, ◌∙◌, refl, sym, ap, ℕ, suc, ◌+◌, ◌<◌, List, [], ◌∷◌, ◌++◌, length, get_or, map, take, arith, true, All, take-suc, get_or-map, length-map, map-append, All-more, ArrayVec, between_is, between_ok, both, both_from, SubscriberRow, AccessInfoRow, between, is_between, LAST_SUBSCRIBER, access_data, destinations, effect, is_in_range, new_destination, s_id_of, subscriber_data, IsWithin, access_at, subscriber_at, HoldingState, HasRowsWhileOut, with_outs, HasRowsOf, OwnersState, store_in, Store, is_read, subscriber_fits, IsStepWhileOut, register_with, AreFound, access_reply, numbers_reply, subscriber_reply, IsActionStep, IsStep, given_number, reply_of, Action, RowReply, Event, Reply, Option, Some, None, Ok}
+use Rattle.hlr_core.proofs.Common.{◌≡◌, ◌∙◌, refl, sym, ap, ℕ, suc, ◌+◌, ◌<◌, List, [], ◌∷◌, ◌++◌, length, get_or, map, take, arith, true, All, take-suc, get_or-map, length-map, map-append, All-more, ArrayVec, between_is, between_ok, both, both_from, SubscriberRow, AccessInfoRow, between, is_between, LAST_SUBSCRIBER, access_data, destinations, effect, is_in_range, new_destination, s_id_of, subscriber_data, IsWithin, access_at, subscriber_at, HoldingState, HasRowsWhileOut, with_outs, HasRowsOf, OwnersState, store_in, Store, is_read, subscriber_fits, IsStepWhileOut, register_with, AreFound, access_reply, numbers_reply, subscriber_reply, IsRowStep, IsStep, given_number, reply_of, Action, RowReply, Event, Reply, Option, Some, None, Ok}
 use Rattle.tatp_rows.specs.declared.refusal.Refusal.TheVariants as refusal
 use Rattle.tatp_actions.specs.declared.action.Action.TheVariants as action
 use Rattle.tatp_actions.specs.declared.action.RowReply.TheVariants as row_reply
@@ -11,7 +11,7 @@ use Rattle.hlr_core.proofs.LentLemmas.{read_step}
 module _ (store : Store) (holding : HoldingState) where
   -- what is found in the part that has a subscriber is what is read of them
   held_read : (act : Action) (answer : RowReply) → given_number act ≡ None → HasRowsOf (s_id_of act) store holding → is_in_range act ≡ true → effect act holding.part.book ≡ (answer, holding.part.book)
-      → IsActionStep act store (reply_of answer) store
+      → IsRowStep (is_in_range act) (Some act) store (reply_of answer) store
   held_read act answer gives has fits is = read_step act store answer gives (is_read act store holding has fits answer is)
 
   subscriber_read : (s_id : ℕ) → IsWithin 1 (LAST_SUBSCRIBER + 1) s_id → HasRowsOf s_id store holding → (o : Option SubscriberRow) → o ≡ subscriber_at holding.part.book s_id

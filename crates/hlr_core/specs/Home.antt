@@ -1,6 +1,6 @@
 -- The parts on which an event works are at home.
 use Rattle.std.specs.Prelude.{◌≡◌, ◌-◌, ◌<◌, ◌≤◌, ◌↔◌, ℕ, Bool, true, false, IfSome, slice_index}
-use Rattle.view_board.specs.Desks.{Station}
+use Rattle.view_board.specs.Desks.{DeskState}
 use Rattle.hlr_owners.specs.Out.{outs_in}
 use Rattle.hlr_owners.specs.PartChanges.{IsWithNew, IsWithout}
 use Rattle.hlr_owners.specs.Owners.{OwnersState, IsHomeFor, IsHomeFrom, IsPartHome, book_in, homes_in}
@@ -58,7 +58,7 @@ pub record HaveSameHomes (before after : OwnersState) : Type 0 where
   pub spare : after.spare ≡ before.spare
 
 -- a desk of the same board, which has seen at least as much of each word
-pub record IsLaterDesk (before after : Station) : Type 0 where
+pub record IsLaterDesk (before after : DeskState) : Type 0 where
   pub board : after.board ≡ before.board
   pub seen : (w : ℕ) → slice_index before.view.seen w ≤ slice_index after.view.seen w
 

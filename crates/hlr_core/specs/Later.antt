@@ -1,4 +1,5 @@
--- Owners that others may stand for while parts are out, whatever jobs their holdings do: each subscriber keeps the number.
+-- Owners that others may stand for while parts are out, whatever jobs their holdings do: each subscriber keeps the
+-- number.
 use Rattle.std.specs.Prelude.{◌≡◌, ℕ, List, map, Option, IfSome}
 use Rattle.std.specs.List.{AllZip}
 use Rattle.holding.specs.Held.{HoldingState}
@@ -6,7 +7,7 @@ use Rattle.hlr_owners.specs.Owners.{OwnersState, IsLaterOwner, IsBackFor, state_
 use Rattle.hlr_owners.specs.declared.part_owner.RegionOwner.{RegionOwner}
 use Rattle.hlr_core.specs.Index.{number_pair}
 
--- the pairs of numbers and subscribers of a holding, and of an owner
+-- the pairs of number and subscriber of a holding's rows
 abbrev pub numbers_of : HoldingState → List (ℕ × ℕ)
 numbers_of holding = map number_pair holding.part.book.subscribers
 

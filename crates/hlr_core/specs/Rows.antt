@@ -44,8 +44,8 @@ abbrev pub numbers_reply : List ℕ → Reply
 numbers_reply [] = reply.Refused NoDestination
 numbers_reply (number ∷ numbers) = reply.Rows (row_reply.Numbers (record { items = number ∷ numbers }))
 
--- what was found for each question is the reply to its event: a right step that changes nothing, whatever jobs have done
--- to the holdings that are out
+-- what was found for each question is the reply to its event: a right step that changes nothing, whatever jobs have
+-- done to the holdings that are out
 pub record AreFound {Q F : Type 0} (event : Q → Event) (told : F → Reply) (h : OwnersState) (asked : List Q) (found : List F) : Type 0 where
   pub as_many : length found ≡ length asked
   pub steps : (at : ℕ) (question : Q) (one : F) → at < length asked

@@ -44,9 +44,14 @@ abbrev pub IsJobDone : Job → HoldingState → Reply → HoldingState → Type 
 IsJobDone (Act act) before answer after = IsActed act before answer after
 IsJobDone (Post limit) before answer after = IsPosted limit before answer after
 
+-- a job that gives no number
+abbrev pub IsNumberless : Job → Type 0
+IsNumberless (Act act) = given_number act ≡ None
+IsNumberless (Post limit) = ⊤
+
 -- a job of a part: an action on a subscriber of the part, that gives no number, or a posting
 abbrev pub IsJobOf : List Region → ℕ → Job → Type 0
-IsJobOf regions p (Act act) = (place_of (s_id_of act) regions ≡ Some (place.Part p)) × (given_number act ≡ None)
+IsJobOf regions p (Act act) = (place_of (s_id_of act) regions ≡ Some (place.Part p)) × IsNumberless (Act act)
 IsJobOf regions p (Post limit) = ⊤
 
 -- a holding can be asked for the job: the subscriber of an action lies in its range
@@ -76,7 +81,7 @@ AreDone regions before [] after = after ≡ before
 AreDone regions before (one ∷ jobs) after =
     (next : List RegionOwner) × IsDoneAt regions one.part one.job before one.answer next × AreDone regions next jobs after
 
--- those of a part, in order, and those of all others
+-- the jobs of a part, in order
 abbrev pub jobs_of : ℕ → List JobReply → List JobReply
 jobs_of p jobs = filter (λ one. one.part == p) jobs
 

@@ -166,7 +166,7 @@ IsTakeStep piece part before answer after =
     × MayAnswer (take_answer piece part before.regions) done × (answer ≡ taken_reply piece part done)
     × (after ≡ record before { regions = after_take piece part done before.regions })
 
--- the reply of a divide, and of a dissolve
+-- the reply of a divide
 abbrev pub divided_reply : Result (ℕ × ℕ × ℕ) Refusal → Reply
 divided_reply (Ok part) = reply.Divided part.0 part.1 part.2
 divided_reply (Err why) = reply.Refused why

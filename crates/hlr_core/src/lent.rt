@@ -17,8 +17,8 @@ use std::sync::Arc;
 use view_board::Board;
 
 impl Register {
-    /// Tells the prover that each region has its owner beside it, and that the desks are the board's and share its slots.
-    /// It does nothing.
+    /// Tells the prover that each region has its owner beside it, and that the desks are the board's and share its
+    /// slots. It does nothing.
     #[inline(always)]
     pub fn rules(&self)
         ensures ruled { AreOwners self.now }
@@ -28,8 +28,8 @@ impl Register {
     }
 
     /// Hands the holding of a part out, which is at home: to a thread, where it does the jobs that `Register::route`
-    /// sends to the part. The register is seen as before, with that part as it is now. Such jobs change neither index nor
-    /// regions, and those of different parts may be done in any order, with the same replies. It takes no memory.
+    /// sends to the part. The register is seen as before, with that part as it is now. Such jobs change neither index
+    /// nor regions, and those of different parts may be done in any order, with the same replies. It takes no memory.
     pub fn lend(&mut self, part: u8) -> Box<Holding>
         requires { slice_index_or (homes_in self.old.owners) part false ≡ true }
         ensures lent { IsLent part self.old result.value self.new }

@@ -51,8 +51,8 @@ fn put_accesses(asked: &[(u64, u64)], accesses: &mut ArrayVec<(u32, u8), 16>) ->
     true
 }
 
-/// Puts calls and their s_ids into empty lists, and tells whether each has its fields in range, as `Register::destinations`
-/// wants them.
+/// Puts calls and their s_ids into empty lists, and tells whether each has its fields in range, as
+/// `Register::destinations` wants them.
 fn put_calls(
     asked: &[(u64, u64, u64, u64)],
     calls: &mut ArrayVec<(u32, u8, u8, u8), 16>,
@@ -88,9 +88,10 @@ fn put_s_ids(accesses: &[(u32, u8)], s_ids: &mut ArrayVec<u32, 16>)
 }
 
 impl Register {
-    /// GET_SUBSCRIBER_DATA (TATP, section 3.1) of up to 16 subscribers whose parts are at home, side by side: puts the row
-    /// of each into an empty list, in their order, `None` where there is none, if one part has them all, and tells
-    /// whether one has. Else, and where an s_id isn't in 1..=16,777,216, `lend_subscriber` answers one after another.
+    /// Does GET_SUBSCRIBER_DATA (TATP, section 3.1) of up to 16 subscribers whose parts are at home, side by side: puts
+    /// the row of each into an empty list, in their order, `None` where there is none, if one part has them all, and
+    /// tells whether one has. Else, and where an s_id isn't in 1..=16,777,216, `lend_subscriber` answers one after
+    /// another.
     pub fn copy_subscribers(
         &self,
         s_ids: &[u64],
@@ -113,8 +114,8 @@ impl Register {
         true
     }
 
-    /// GET_ACCESS_DATA (TATP, section 3.3) of up to 16 accesses of subscribers whose parts are at home, each asked by its
-    /// s_id and ai_type, as `copy_subscribers`.
+    /// Does GET_ACCESS_DATA (TATP, section 3.3) of up to 16 accesses of subscribers whose parts are at home, each asked
+    /// by its s_id and ai_type, as `copy_subscribers`.
     pub fn copy_access(&self, asked: &[(u64, u64)], rows: &mut ArrayVec<Option<Access>, 16>) -> bool
         requires few { length asked.now ≤ 16 }
         requires empty { rows.old.items ≡ [] }
@@ -135,8 +136,9 @@ impl Register {
         true
     }
 
-    /// GET_NEW_DESTINATION (TATP, section 3.2) of up to 16 calls of subscribers whose parts are at home, each asked by its
-    /// s_id, sf_type, start_time and end_time, as `copy_subscribers`: the numbers to which each is forwarded, if any.
+    /// Does GET_NEW_DESTINATION (TATP, section 3.2) of up to 16 calls of subscribers whose parts are at home, each
+    /// asked by its s_id, sf_type, start_time and end_time, as `copy_subscribers`: the numbers to which each is
+    /// forwarded, if any.
     pub fn copy_destinations(
         &self,
         asked: &[(u64, u64, u64, u64)],

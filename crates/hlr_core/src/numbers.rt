@@ -28,6 +28,7 @@ impl HasSubscribers for Holding {
     ghost rows_of = { λ holding. holding.part.book.subscribers };
 
     fn first_row(&self, s_id: u64) -> Option<&Subscriber> {
+        self.rules();
         self.first_sub_from(s_id)
     }
 }
@@ -36,6 +37,7 @@ impl HasSubscribers for Piece {
     ghost rows_of = { λ piece. piece.part.book.subscribers };
 
     fn first_row(&self, s_id: u64) -> Option<&Subscriber> {
+        self.rules();
         self.first_sub_from(s_id)
     }
 }

@@ -23,9 +23,9 @@ pub enum Answer {
     Recut(Result<u8, Refusal>),
 }
 
-/// Tells that gives, takes and re-cuts, and parts that come and go, change no reply but `Moving`, of any right run: also
-/// of one that is made of single calls of `Register::apply` and `Register::recut_to`, each of which takes a right step.
-/// What `Register::apply_all` says of its list holds of it. Nothing is done.
+/// Tells that gives, takes and re-cuts, and parts that come and go, change no reply but `Moving`, of any right run:
+/// also of one that is made of single calls of `Register::apply` and `Register::recut_to`, each of which takes a right
+/// step. What `Register::apply_all` says of its list holds of it. Nothing is done.
 pub fn no_reply_but_moving()
     ensures { RunsAreSameAtHome }
 {}

@@ -110,8 +110,9 @@ pub(crate) fn edited_reply(done: Result<(), Refusal>) -> Reply
 }
 
 impl Register {
-    /// Opens an empty register whose words are all 0, with so many parts that share out the zones of `width` subscribers
-    /// each. `Field` where parts isn't in 1..=16 or the width isn't in 1..=524,288; `Memory` where a growth was refused.
+    /// Opens an empty register whose words are all 0, with so many parts that share out the zones of `width`
+    /// subscribers each. `Field` where parts isn't in 1..=16 or the width isn't in 1..=524,288; `Memory` where a growth
+    /// was refused.
     #[inline(never)]
     pub fn open(alloc: Global, parts: u8, width: u32) -> Result<Register, Refusal>
         ensures ok { IfOk result (λ register. store_in register ≡ opening parts width) }
@@ -174,8 +175,8 @@ impl Register {
 
     /// Makes a register of parts, loose pieces and a frame, whatever was done to them: the regions are their ranges,
     /// numbered in key order, and the index is that of their rows. No row is counted. All desks, the frame's too, are
-    /// to be the frame's board's and to have each slot once, each holding's one, and each slot of the frame's desk is to
-    /// have published a net of 0 of each cell.
+    /// to be the frame's board's and to have each slot once, each holding's one, and each slot of the frame's desk is
+    /// to have published a net of 0 of each cell.
     ///
     /// `NoPart` where there is no holding or more than 16, `ManyPieces` where there are more than 16 pieces, `Field`
     /// where a width of zones isn't the frame's, `NotAdjacent` where the ranges leave a gap or overlap, `NumberTaken`
@@ -204,8 +205,8 @@ impl Register {
         }
     }
 
-    /// Applies an event, and replies to it. A refusal changes nothing; after `Worn` the cells posted before stand. It is
-    /// right whatever jobs have done to the holdings that are out.
+    /// Applies an event, and replies to it. A refusal changes nothing; after `Worn` the cells posted before stand. It
+    /// is right whatever jobs have done to the holdings that are out.
     pub fn apply(&mut self, event: Event) -> Reply
         requires { IsHomeTo event self.old }
         ensures step { IsStep event (store_in self.old) result (store_in self.new) }
@@ -328,8 +329,8 @@ impl Register {
         self.owners.published()
     }
 
-    /// Gives a sight of the board's words: those of slots that no part has as they are, each other one at least what was
-    /// seen of it before, at first its word at opening, and none past `LIMIT`. It takes no memory.
+    /// Gives a sight of the board's words: those of slots that no part has as they are, each other one at least what
+    /// was seen of it before, at first its word at opening, and none past `LIMIT`. It takes no memory.
     pub fn look(&mut self) -> Sight
         ensures right { IsSightOf (store_in self.old) result.words }
         ensures seen { store_in self.new ≡ record (store_in self.old) { sight = result.words } }
@@ -417,8 +418,8 @@ impl Register {
         &self.index
     }
 
-    /// Posts at most `limit` cells of a part, as `Event::Post`, and replies how many: `NoPart`, or `Worn`, after which the
-    /// cells before stay posted.
+    /// Posts at most `limit` cells of a part, as `Event::Post`, and replies how many: `NoPart`, or `Worn`, after which
+    /// the cells before stay posted.
     pub fn post(&mut self, part: u64, limit: u64) -> Reply
         requires { IsPartHome part self.old }
         ensures step { IsStep (Event.Post part limit) (store_in self.old) result (store_in self.new) }

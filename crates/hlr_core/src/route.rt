@@ -72,10 +72,10 @@ impl TaskRoute {
 }
 
 impl Register {
-    /// Tells which parts an event works on, which are those that `apply` wants at home, whichever are out: the part of its
-    /// subscriber, the part that posts, gives or takes, or the part that is divided, or stands in front of one that is
-    /// dissolved, and all behind it. None where the s_id is out of range, nobody has the number, a loose piece has the
-    /// subscriber, or no part has a number from there on. It takes no memory.
+    /// Tells which parts an event works on, which are those that `apply` wants at home, whichever are out: the part of
+    /// its subscriber, the part that posts, gives or takes, or the part that is divided, or stands in front of one that
+    /// is dissolved, and all behind it. None where the s_id is out of range, nobody has the number, a loose piece has
+    /// the subscriber, or no part has a number from there on. It takes no memory.
     pub fn parts_for(&self, event: &Event) -> Parts
         ensures now { WorksOn event.now result self.now }
         ensures same { (h : OwnersState) → AreOwners h → h.regions ≡ self.now.regions → (book_in h.owners).subscribers ≡ (book_in self.now.owners).subscribers → WorksOn event.now result h }
@@ -160,8 +160,8 @@ impl Register {
         }
     }
 
-    /// Tells where an event goes. What is answered at once is right, and changes nothing, whatever the parts' holdings do
-    /// meanwhile; a job that goes to a part is right whatever the others do. It takes no memory, wherever they are.
+    /// Tells where an event goes. What is answered at once is right, and changes nothing, whatever the parts' holdings
+    /// do meanwhile; a job that goes to a part is right whatever the others do. It takes no memory, wherever they are.
     pub fn route(&self, event: &Event) -> Route
         ensures { IsRouted event.now self.now result }
     {
@@ -217,8 +217,8 @@ impl Register {
         }
     }
 
-    /// Where an event goes that names its subscriber by a number: to the part that has them, and refused where nobody has
-    /// the number or a loose piece has them.
+    /// Where an event goes that names its subscriber by a number: to the part that has them, and refused where nobody
+    /// has the number or a loose piece has them.
     fn route_by_number(&self, event: Event) -> TaskRoute
         requires { is_by_number event ≡ true }
         ensures { IsRouted event self.now (route_of result) }

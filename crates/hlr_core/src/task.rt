@@ -120,8 +120,8 @@ fn read_access(holding: &Holding, s_id: u32, ai_type: u8) -> Reply
     access_reply(holding.lend_access(s_id, ai_type).ok_or(Refusal::NoAccess))
 }
 
-/// The same of the numbers to which a subscriber's facility forwards a call: `Field` where sf_type isn't in 1..=4, or of
-/// the hours start_time isn't 0, 8 or 16 or end_time isn't in 1..=24.
+/// The same of the numbers to which a subscriber's facility forwards a call: `Field` where sf_type isn't in 1..=4, or
+/// of the hours start_time isn't 0, 8 or 16 or end_time isn't in 1..=24.
 fn read_destinations(
     holding: &Holding,
     s_id: u32,

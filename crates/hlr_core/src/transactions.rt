@@ -1,7 +1,7 @@
 //! The events on rows, as calls of their own: a read lends its row, and a change goes down to its row with no event,
 //! action or reply made of it. Each refuses a field that is out of its range by `Field`, before it asks a row, and
-//! answers `Moving` where the subscriber lies in a loose piece. Each is right whatever jobs have done to the holdings that
-//! are out.
+//! answers `Moving` where the subscriber lies in a loose piece. Each is right whatever jobs have done to the holdings
+//! that are out.
 ghost use Rattle.std.specs.Prelude.{◌≡◌, ◌+◌, ℕ, Some, IfOk, IfErr, MatchResult, Bool, Option};
 ghost use Rattle.tatp_rows.specs.declared.ranges.TheConstants.{LAST_SUBSCRIBER};
 ghost use Rattle.hlr_core.specs.Inside.Asked.{IsAsked, IsRowAction, IsRowStep, IsRowStepWhileOut, action_asked};
@@ -27,8 +27,8 @@ use tatp_rows::{
 };
 
 impl Register {
-    /// GET_SUBSCRIBER_DATA (TATP, section 3.1), as `Event::SubscriberData`, but the row is lent from where it lies:
-    /// `Field` where s_id isn't in 1..=16,777,216, `Moving`, `NoSubscriber`.
+    /// Does GET_SUBSCRIBER_DATA (TATP, section 3.1), as `Event::SubscriberData`, but the row is lent from where it
+    /// lies: `Field` where s_id isn't in 1..=16,777,216, `Moving`, `NoSubscriber`.
     pub fn lend_subscriber(&self, s_id: u64) -> Result<&Subscriber, Refusal>
         requires { IsHomeTo (event.SubscriberData s_id) self.now }
         ensures row { IfOk result (λ row. IsStep (event.SubscriberData s_id) (store_in self.now) (reply.Rows (row_reply.Row row.now)) (store_in self.now)) }
@@ -39,8 +39,8 @@ impl Register {
         self.owners.lend_subscriber(s_id)
     }
 
-    /// GET_ACCESS_DATA (TATP, section 3.3), as `Event::AccessData`, but the row is lent from where it lies: `Field`
-    /// where s_id isn't in 1..=16,777,216 or ai_type isn't in 1..=4, `Moving`, `NoAccess`.
+    /// Does GET_ACCESS_DATA (TATP, section 3.3), as `Event::AccessData`, but the row is lent from where it lies:
+    /// `Field` where s_id isn't in 1..=16,777,216 or ai_type isn't in 1..=4, `Moving`, `NoAccess`.
     pub fn lend_access(&self, s_id: u64, ai_type: u64) -> Result<&Access, Refusal>
         requires { IsHomeTo (event.AccessData s_id ai_type) self.now }
         ensures row { IfOk result (λ row. IsStep (event.AccessData s_id ai_type) (store_in self.now)
@@ -53,9 +53,9 @@ impl Register {
         self.owners.lend_access(s_id, ai_type)
     }
 
-    /// GET_NEW_DESTINATION (TATP, section 3.2), as `Event::NewDestination`: the numbers, one to three, of forwardings
-    /// that are read where they lie: `Field` where s_id isn't in 1..=16,777,216, sf_type isn't in 1..=4, or of the
-    /// hours start_time isn't 0, 8 or 16 or end_time isn't in 1..=24, `Moving`, `NoDestination`.
+    /// Does GET_NEW_DESTINATION (TATP, section 3.2), as `Event::NewDestination`: the numbers, one to three, of
+    /// forwardings that are read where they lie: `Field` where s_id isn't in 1..=16,777,216, sf_type isn't in 1..=4, or
+    /// of the hours start_time isn't 0, 8 or 16 or end_time isn't in 1..=24, `Moving`, `NoDestination`.
     pub fn destinations(
         &self,
         s_id: u64,
@@ -75,8 +75,9 @@ impl Register {
             .destinations(s_id, sf_type, start_time, end_time)
     }
 
-    /// UPDATE_SUBSCRIBER_DATA (TATP, section 3.4), as `Event::UpdateSubscriber`: `Field` where s_id isn't in
-    /// 1..=16,777,216, sf_type in 1..=4, bit_1 in 0..=1 or data_a in 0..=255, `Moving`, `NoSubscriber`, `NoFacility`.
+    /// Does UPDATE_SUBSCRIBER_DATA (TATP, section 3.4), as `Event::UpdateSubscriber`: `Field` where s_id isn't in
+    /// 1..=16,777,216, sf_type isn't in 1..=4, bit_1 isn't in 0..=1 or data_a isn't in 0..=255, `Moving`,
+    /// `NoSubscriber`, `NoFacility`.
     pub fn update_subscriber(
         &mut self,
         s_id: u64,
@@ -92,7 +93,7 @@ impl Register {
         self.edit(checked::update_subscriber(s_id, sf_type, bit_1, data_a))
     }
 
-    /// UPDATE_LOCATION (TATP, section 3.5), as `Event::UpdateLocation`: `Field` where vlr_location isn't in
+    /// Does UPDATE_LOCATION (TATP, section 3.5), as `Event::UpdateLocation`: `Field` where vlr_location isn't in
     /// 1..=4,294,967,295, `NoNumber`, `Moving`.
     pub fn update_location(&mut self, sub_nbr: Number, vlr_location: u64) -> Result<(), Refusal>
         requires { IsHomeTo (event.UpdateLocation sub_nbr vlr_location) self.old }
@@ -104,9 +105,9 @@ impl Register {
         self.edit(checked::update_location(bearer_id, vlr_location))
     }
 
-    /// INSERT_CALL_FORWARDING (TATP, section 3.6), as `Event::InsertForwarding`: `Field` where sf_type isn't in 1..=4,
-    /// or of the hours start_time isn't 0, 8 or 16 or end_time isn't in 1..=24, `NoNumber`, `Moving`, `NoFacility`,
-    /// `Exists`, `Memory`.
+    /// Does INSERT_CALL_FORWARDING (TATP, section 3.6), as `Event::InsertForwarding`: `Field` where sf_type isn't in
+    /// 1..=4, or of the hours start_time isn't 0, 8 or 16 or end_time isn't in 1..=24, `NoNumber`, `Moving`,
+    /// `NoFacility`, `Exists`, `Memory`.
     pub fn insert_forwarding(
         &mut self,
         sub_nbr: Number,
@@ -124,8 +125,8 @@ impl Register {
         self.edit(checked::insert_forwarding(bearer_id, sf_type, start_time, end_time, numberx))
     }
 
-    /// DELETE_CALL_FORWARDING (TATP, section 3.7), as `Event::DeleteForwarding`: `Field` where sf_type isn't in 1..=4
-    /// or the hour start_time isn't 0, 8 or 16, `NoNumber`, `Moving`, `NoForwarding`.
+    /// Does DELETE_CALL_FORWARDING (TATP, section 3.7), as `Event::DeleteForwarding`: `Field` where sf_type isn't in
+    /// 1..=4 or the hour start_time isn't 0, 8 or 16, `NoNumber`, `Moving`, `NoForwarding`.
     pub fn delete_forwarding(
         &mut self,
         sub_nbr: Number,
@@ -161,8 +162,8 @@ impl Register {
         self.edit(checked::add_facility(row))
     }
 
-    /// Switches a facility on or off, as `Event::SetActive`: `Field` where s_id isn't in 1..=16,777,216, sf_type in
-    /// 1..=4 or is_active in 0..=1, `Moving`, `NoFacility`.
+    /// Switches a facility on or off, as `Event::SetActive`: `Field` where s_id isn't in 1..=16,777,216, sf_type isn't
+    /// in 1..=4 or is_active isn't in 0..=1, `Moving`, `NoFacility`.
     pub fn set_active(&mut self, s_id: u64, sf_type: u64, is_active: u64) -> Result<(), Refusal>
         requires { IsHomeTo (event.SetActive s_id sf_type is_active) self.old }
         ensures step { IsStep (event.SetActive s_id sf_type is_active) (store_in self.old) (edited_reply result) (store_in self.new) }

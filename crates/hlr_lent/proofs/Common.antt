@@ -15,7 +15,7 @@ pub use Rattle.hlr_core.specs.Home.{AreHomesAfter, HaveSameHomes, IsHomeTo}
 pub use Rattle.hlr_core.specs.Index.{number_pair}
 pub use Rattle.hlr_core.specs.Later.{IsBackWith, IsLater}
 pub use Rattle.hlr_core.specs.Route.{IsRightNow, is_here}
-pub use Rattle.hlr_core.specs.Session.{IsActed, IsJobDone, IsPosted}
+pub use Rattle.hlr_core.specs.Session.{IsActed, IsJobDone, IsNumberless, IsPosted}
 pub use Rattle.hlr_core.specs.Step.{IsAskedStep, IsStep, action_for, dissolved_reply, divided_reply, given_reply, posted_reply, reply_of, taken_reply}
 pub use Rattle.hlr_core.specs.declared.event.Event.{Event}
 pub use Rattle.hlr_core.specs.declared.event.Event.TheVariants.{AccessData, AddAccess, AddFacility, AddSubscriber, DeleteForwarding, Dissolve, Divide, Give, InsertForwarding, NewDestination, SetActive, SetNumber, SubscriberData, Take, UpdateLocation, UpdateSubscriber}
@@ -53,9 +53,9 @@ pub use Rattle.tatp_rows.proofs.OrderedLemmas.{by_test}
 pub use Rattle.tatp_rows.specs.Rows.{between, is_between}
 pub use Rattle.tatp_rows.specs.declared.ranges.TheConstants.{LAST_SUBSCRIBER}
 pub use Rattle.tatp_rows.specs.declared.refusal.Refusal.{Refusal}
-pub use Rattle.view_board.specs.Desks.{Station}
+pub use Rattle.view_board.specs.Desks.{DeskState}
 pub use Rattle.hlr_lent.specs.Away.{IsAsking, allowed, refusal_of}
-pub use Rattle.hlr_lent.specs.Jobs.{AreDone, IsBack, IsNumberless, IsWorked}
+pub use Rattle.hlr_lent.specs.Jobs.{AreDone, IsBack, IsWorked}
 pub use Rattle.hlr_lent.specs.Rings.{HasRing, HaveRings, MayComeHome, lent_as}
 pub use Rattle.hlr_lent.specs.declared.ring.Message.{Message}
 pub use Rattle.hlr_lent.specs.declared.ring.ReturnRule.{ReturnRule}

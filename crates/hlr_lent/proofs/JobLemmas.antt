@@ -1,5 +1,5 @@
 -- What jobs leave of a holding that is out, so that it may come home.
-use Rattle.hlr_lent.proofs.Common.{refl, ap, List, [], ◌∷◌, map, false, Some, Station, PartState, HoldingState, Job, Act, Post, RegionOwner, Part, holding_keeps, number_pair, IsBackWith, IsLater, IsJobDone, Reply, all_later_self, later_after, outcome_numbers, AreDone, IsNumberless, IsWorked, MayComeHome, Message}
+use Rattle.hlr_lent.proofs.Common.{refl, ap, List, [], ◌∷◌, map, false, Some, DeskState, PartState, HoldingState, Job, Act, Post, RegionOwner, Part, holding_keeps, number_pair, IsBackWith, IsLater, IsJobDone, Reply, all_later_self, later_after, outcome_numbers, AreDone, IsNumberless, IsWorked, MayComeHome, Message}
 
 -- the owner of a part that is out, with what its holding is now
 abbrev pub away : HoldingState → RegionOwner
@@ -12,8 +12,8 @@ job_later (Act act) a answer b none done = record {
       lo = done.range.0;
       hi = done.range.1;
       width = done.range.2;
-      board = ap (λ (desk : Station). desk.board) done.desk.0;
-      owned = ap (λ (desk : Station). desk.view.owned) done.desk.0;
+      board = ap (λ (desk : DeskState). desk.board) done.desk.0;
+      owned = ap (λ (desk : DeskState). desk.view.owned) done.desk.0;
     },
     λ lawful. holding_keeps b done.rules,
     λ wide. done.rules.wide,

@@ -1,22 +1,15 @@
 -- The jobs that a holding does from when it is lent until it comes home.
-use Rattle.std.specs.Prelude.{◌≡◌, ℕ, true, List, [], ◌∷◌, None, Some, position, slice_get, slice_set, ⊤}
+use Rattle.std.specs.Prelude.{◌≡◌, ℕ, true, List, [], ◌∷◌, Some, position, slice_get, slice_set}
 use Rattle.part_table.specs.Region.{is_part}
 use Rattle.holding.specs.Held.{HoldingState}
 use Rattle.holding.specs.declared.job.Job.{Job}
-use Rattle.holding.specs.declared.job.Job.TheVariants.{Act, Post}
 use Rattle.hlr_owners.specs.Out.{outs_in}
 use Rattle.hlr_owners.specs.Owners.{OwnersState}
 use Rattle.hlr_owners.specs.declared.part_owner.RegionOwner.TheVariants.{Part}
-use Rattle.hlr_core.specs.Session.{IsJobDone}
-use Rattle.hlr_core.specs.Step.{given_number}
+use Rattle.hlr_core.specs.Session.{IsJobDone, IsNumberless}
 use Rattle.hlr_core.specs.declared.event.Reply.{Reply}
 
--- a job that gives no number
-abbrev pub IsNumberless : Job → Type 0
-IsNumberless (Act act) = given_number act ≡ None
-IsNumberless (Post limit) = ⊤
-
--- such jobs, the last one first, each with the reply to it, make one holding of another
+-- jobs that give no number, the last one first, each with the reply to it, make one holding of another
 abbrev pub AreDone : HoldingState → List (Job × Reply) → HoldingState → Type 0
 AreDone lent [] now = now ≡ lent
 AreDone lent (last ∷ earlier) now =

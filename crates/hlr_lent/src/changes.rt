@@ -1,5 +1,5 @@
-//! The events on rows, and a posting, as calls of their own: each as the register's own call, where the parts on which it
-//! works are at home. It is right whatever jobs have done to the holdings that are out.
+//! The events on rows, and a posting, as calls of their own: each as the register's own call, where the parts on which
+//! it works are at home. It is right whatever jobs have done to the holdings that are out.
 ghost use Rattle.hlr_owners.specs.Owners.{IsPartHome, store_in};
 ghost use Rattle.hlr_core.specs.WhileOut.{IsStepWhileOut};
 ghost use Rattle.hlr_core.specs.Home.{IsHomeTo, HaveSameHomes};

@@ -28,8 +28,8 @@ impl Lender {
         !self.lends || self.register.all_at_home()
     }
 
-    /// Tells whether whoever has a subscriber is at home. It answers true of an s_id out of 1..=16,777,216, which nobody
-    /// has.
+    /// Tells whether whoever has a subscriber is at home. It answers true of an s_id out of 1..=16,777,216, which
+    /// nobody has.
     pub fn is_home_for(&self, s_id: u64) -> bool
         ensures { IsTrue result ↔ IsHomeFor s_id self.now }
     {
@@ -88,8 +88,8 @@ impl Lender {
         self.are_home(self.register.parts_for(event))
     }
 
-    /// Tells whether the parts are at home on both sides of each bound that a re-cut moves. It answers true of bounds that
-    /// a re-cut refuses.
+    /// Tells whether the parts are at home on both sides of each bound that a re-cut moves. It answers true of bounds
+    /// that a re-cut refuses.
     pub fn is_home_to_cut(&self, bounds: &[u64]) -> bool
         ensures { IsTrue result ↔ IsHomeToCut bounds.now self.now }
     {

@@ -193,8 +193,8 @@ impl Lender {
         }
     }
 
-    /// Applies an event whose parts are at home, and replies to it, as `Register::apply`. It is right whatever jobs have
-    /// done to the holdings that are out.
+    /// Applies an event whose parts are at home, and replies to it, as `Register::apply`. It is right whatever jobs
+    /// have done to the holdings that are out.
     pub fn apply(&mut self, event: Event) -> Reply
         requires { IsHomeTo event self.old }
         ensures step { IsStep event (store_in self.old) result (store_in self.new) }
@@ -204,9 +204,9 @@ impl Lender {
         self.register.apply(event)
     }
 
-    /// Gives the refusal of an event that is known without the parts that are out: of an event on rows a field out of its
-    /// range, a number that nobody has, and a subscriber in a loose piece; of a posting a part that isn't there; and
-    /// whatever the regions refuse.
+    /// Gives the refusal of an event that is known without the parts that are out: of an event on rows a field out of
+    /// its range, a number that nobody has, and a subscriber in a loose piece; of a posting a part that isn't there;
+    /// and whatever the regions refuse.
     pub fn known(&self, event: &Event) -> Option<Refusal>
         ensures step { IfSome result (λ why. IsStep event.now (store_in self.now) (Reply.Refused why) (store_in self.now)) }
         ensures homes { IfSome result (λ why. AreHomesAfter event.now (Reply.Refused why) self.now self.now) }
@@ -220,8 +220,8 @@ impl Lender {
         }
     }
 
-    /// Applies an event, or gives `None` where a part on which it works is out: then nothing is changed. A refusal that is
-    /// `known` is answered even then.
+    /// Applies an event, or gives `None` where a part on which it works is out: then nothing is changed. A refusal that
+    /// is `known` is answered even then.
     pub fn ask(&mut self, event: Event) -> Option<Reply>
         ensures step { IfSome result (λ reply. IsStep event (store_in self.old) reply (store_in self.new)) }
         ensures homes { IfSome result (λ reply. AreHomesAfter event reply self.old self.new) }

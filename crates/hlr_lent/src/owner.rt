@@ -19,8 +19,8 @@ use tatp_actions::Edit;
 use tatp_rows::{Access, Number, Refusal, Subscriber};
 use view_board::Board;
 
-/// A part that is out, seen as its holding. Whoever has it does jobs on its rows, alone, and posts to the board that all
-/// parts share, while the other parts and the register go on.
+/// A part that is out, seen as its holding. Whoever has it does jobs on its rows, alone, and posts to the board that
+/// all parts share, while the other parts and the register go on.
 ///
 /// It goes home by `send_home`, from whatever thread. One that is dropped takes its rows along, and its part stays out.
 #[derive(Drop)]
@@ -81,8 +81,7 @@ impl Owner {
 
     /// Gives the first subscriber of the part, 1..=16,777,216. It stays the same while the part is out.
     pub fn lo(&self) -> u32
-        ensures value { result ≡ self.now.part.lo }
-        ensures rules { IsHolding self.now }
+        ensures { result ≡ self.now.part.lo }
     {
         self.holding.lo()
     }
@@ -124,7 +123,8 @@ impl Owner {
         self.holding.copy_subscribers(s_ids, rows);
     }
 
-    /// Puts up to 16 Access_Info rows into an empty list, each asked by its s_id and ai_type, as `Holding::copy_access`.
+    /// Puts up to 16 Access_Info rows into an empty list, each asked by its s_id and ai_type, as
+    /// `Holding::copy_access`.
     pub fn copy_access(&self, asked: &[(u32, u8)], rows: &mut ArrayVec<Option<Access>, 16>)
         requires few { length asked.now ≤ 16 }
         requires empty { rows.old.items ≡ [] }
@@ -161,8 +161,8 @@ impl Owner {
         self.holding.copy_destinations(asked, found);
     }
 
-    /// Does an edit on a subscriber of the part, that gives no number, as `Holding::edit`: `Field`, then the refusals of
-    /// the rows, `Memory` only where a row is added. A refusal changes nothing.
+    /// Does an edit on a subscriber of the part, that gives no number, as `Holding::edit`: `Field`, then the refusals
+    /// of the rows, `Memory` only where a row is added. A refusal changes nothing.
     pub fn edit<E: Edit>(&mut self, edit: E) -> Result<(), Refusal>
         requires within { IsWithin self.old.part.lo self.old.part.hi (s_id_of (E.action edit)) }
         requires number { given_number (E.action edit) ≡ None }

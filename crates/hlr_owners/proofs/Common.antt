@@ -97,7 +97,7 @@ pub use Rattle.view_board.proofs.ListLemmas.{each_slot_at, each_word_at, length-
 pub use Rattle.view_board.proofs.NetLemmas.{net_from-end, net_from-next, word_within}
 pub use Rattle.view_board.proofs.OwnLemmas.{net_none, owns_alone, wide_alone, wide_without}
 pub use Rattle.view_board.proofs.SplitLemmas.{only_slot, was_owned}
-pub use Rattle.view_board.specs.Desks.{Station, with_view}
+pub use Rattle.view_board.specs.Desks.{DeskState, with_view}
 pub use Rattle.view_board.specs.Nets.{net_from, net_of}
 pub use Rattle.view_board.specs.Views.{IsLeastSlot, IsRightSight, IsWide, Owns, OwnsAlone, alone, both, first_view, looked, nobody, owned_at, posted, taken_back, without}
 pub use Rattle.view_board.specs.Words.{each_word, is_worn, leveled, minus_word, plus_word, raised_by, slot_net, twin_of, word_of}
@@ -106,12 +106,12 @@ pub use Rattle.view_board.specs.declared.words.TheConstants.{SLOTS, SLOT_WORDS, 
 pub use Rattle.view_delta.proofs.SumLemmas.{AreMovedTo, one_moved}
 pub use Rattle.view_delta.specs.Pending.{delta_at, is_zero}
 pub use Rattle.hlr_owners.specs.Answered.{IsAnswered, MayAnswer, is_loose, is_loose_place}
-pub use Rattle.hlr_owners.specs.Apart.{lo_of, loose_pieces, owners_from, part_of, piece_at, piece_of, range_of}
-pub use Rattle.hlr_owners.specs.Boxed.{map_boxed, unboxed}
+pub use Rattle.hlr_owners.specs.Apart.{lo_of, loose_pieces, owners_from, part_of, piece_at, piece_of}
+pub use Rattle.hlr_owners.specs.Boxed.{unboxed}
 pub use Rattle.hlr_owners.specs.Desks.{AreDesks, AreLevel, AreOpening, HasOneSlot, IsOfBoard, desk_of, own_number, owns_one, slots_in, words_of}
 pub use Rattle.hlr_owners.specs.Gather.{MayGather, gathered, holding_range, misfit, piece_range, ranges_of, states_of}
-pub use Rattle.hlr_owners.specs.Held.{AreOwnerStates, IsLawful, IsOwnerState, OwnerState, of_holding, of_piece, pending_in}
-pub use Rattle.hlr_owners.specs.Inside.{AreHome, IsHanded, IsMovedAlone, IsOpened}
+pub use Rattle.hlr_owners.specs.Held.{IsLawful, IsOwnerState, OwnerState, of_holding, of_piece, pending_in}
+pub use Rattle.hlr_owners.specs.Inside.{IsEachHome, IsHanded, IsMovedAlone, IsOpened}
 pub use Rattle.hlr_owners.specs.Out.{out_of, outs_in, with_out, with_outs}
 pub use Rattle.hlr_owners.specs.Owners.{AllHome, AreOwners, IsBackFor, IsHomeFor, IsHomeFrom, IsKind, IsLaterOwner, IsLent, IsPartHome, IsPlaceHome, IsRegionOwner, IsSameOwner, OwnersState, book_in, desks_in, holding_at, homes_in, is_home, of_part, of_parts, part_holdings, state_of, states_in, store_in, taker, unposted}
 pub use Rattle.hlr_owners.specs.PartChanges.{IsDissolved, IsDivided, IsWithNew, IsWithout, free_slot, words_back}

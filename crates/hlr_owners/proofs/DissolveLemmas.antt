@@ -1,6 +1,6 @@
 -- A dissolve among all owners: the part's owner goes, and that of the part in front stands for both.
 use Rattle.hlr_owners.proofs.DivideLemmas.{LeavesChanged}
-use Rattle.hlr_owners.proofs.Common.{◌≡◌, ◌∙◌, refl, sym, ap, ℕ, suc, ◌+◌, ◌-◌, ◌<◌, List, ◌∷◌, length, get_or, set, map, true, arith, Some, Ok, position, insert, remove, option_map, slice_get, Box, Global, slice_get-map, TableId, dissolved, dissolve_answer, place_lowered, is_part, Place, Region, High, blank, anew_from, zip_anew, IsDissolve, dissolve_from_answer, dissolved_edit, part_behind_front, front_index, ranges_meet, regions-dissolved, both_ranges, region_lowered, Station, with_view, both, taken_back, HoldingState, PieceState, IsHolding, IsMerged, AreDesks, slots_in, words_of, PartOwnerState, out_of, with_outs, words_back, IsDissolved, IsWithout, slots_of, book_in, desks_in, of_parts, store_in, IsKind, IsHomeFrom, OwnersState, AreOwners, homes_in, RegionOwner, Part, Piece}
+use Rattle.hlr_owners.proofs.Common.{◌≡◌, ◌∙◌, refl, sym, ap, ℕ, suc, ◌+◌, ◌-◌, ◌<◌, List, ◌∷◌, length, get_or, set, map, true, arith, Some, Ok, position, insert, remove, option_map, slice_get, Box, Global, slice_get-map, TableId, dissolved, dissolve_answer, place_lowered, is_part, Place, Region, High, blank, anew_from, zip_anew, IsDissolve, dissolve_from_answer, dissolved_edit, part_behind_front, front_index, ranges_meet, regions-dissolved, both_ranges, region_lowered, DeskState, with_view, both, taken_back, HoldingState, PieceState, IsHolding, IsMerged, AreDesks, slots_in, words_of, PartOwnerState, out_of, with_outs, words_back, IsDissolved, IsWithout, slots_of, book_in, desks_in, of_parts, store_in, IsKind, IsHomeFrom, OwnersState, AreOwners, homes_in, RegionOwner, Part, Piece}
 use Rattle.part_table.specs.declared.region.Place.TheVariants as place
 use Rattle.hlr_owners.proofs.HalvesLemmas.{merged_in}
 use Rattle.hlr_owners.proofs.HomeLemmas.{first_home, later_home}
@@ -18,7 +18,7 @@ lowered_kind (place.Part p) (Part l) kind = tt
 lowered_kind p s kind = kind
 
 -- the spare desk with the one that a holding leaves
-abbrev spare_with : Station → HoldingState → Station
+abbrev spare_with : DeskState → HoldingState → DeskState
 spare_with spare gone = with_view spare (both spare.view (taken_back gone.desk.view gone.slot))
 
 module _ (h : OwnersState) (are : AreOwners h) (p : ℕ) (told : ℕ × ℕ × ℕ) (answer : dissolve_answer p h.regions ≡ Ok told) (i : ℕ) (index : position (is_part p) h.regions ≡ Some i) where
@@ -104,8 +104,8 @@ module _ (h : OwnersState) (are : AreOwners h) (p : ℕ) (told : ℕ × ℕ × �
           outs-set (remove h.owners i) ks (i - 1) k m stood still ∙ ap (λ (owners : List RegionOwner). set owners (i - 1) (Part m)) (outs-remove_part h.owners ks i l within is from)
 
     -- a part that was dissolved
-    module _ (m : PartOwnerState) (desk : Station) (merged : IsMerged k.holding l.holding desk m.holding) (kept : IsHolding m.holding) where
-      dissolved_owners : (spare : Station) → AreOwners (record { regions = dissolved p h.regions; owners = owners_without m; spare = spare; width = h.width }) × (book_in (owners_without m) ≡ book_in h.owners)
+    module _ (m : PartOwnerState) (desk : DeskState) (merged : IsMerged k.holding l.holding desk m.holding) (kept : IsHolding m.holding) where
+      dissolved_owners : (spare : DeskState) → AreOwners (record { regions = dissolved p h.regions; owners = owners_without m; spare = spare; width = h.width }) × (book_in (owners_without m) ≡ book_in h.owners)
       dissolved_owners spare =
           owners_in h are (dissolved p h.regions) (owners_without m) spare (regions-dissolved p h.regions told dissolving are.are i index) (rw (without_is m, dissolved_edit p h.regions i behind index)
           (zip_remove (IsRegionOwnerIn h.width (book_in h.owners)) (set (anew_from region_lowered (i + 1) h.regions) (i - 1) (both_ranges front part)) (set h.owners (i - 1) (Part m)) i
@@ -144,12 +144,12 @@ module _ (h : OwnersState) (are : AreOwners h) (p : ℕ) (told : ℕ × ℕ × �
 module _ (h : OwnersState) (are : AreOwners h) (p : ℕ) (told : ℕ × ℕ × ℕ) (answer : dissolve_answer p h.regions ≡ Ok told) (i : ℕ) (index : position (is_part p) h.regions ≡ Some i) (l : PartOwnerState) (is : Part l ≡ get_or h.owners i (Part l))
     (board : TableId) (rules : AreDesks board h.spare (desks_in h.owners)) where
   -- it is so whatever those that are out have become, where nobody from the part in front on is
-  pub all_dissolved : (k : PartOwnerState) → Part k ≡ get_or (remove h.owners i) (i - 1) (Part k) → (grown : HoldingState) (desk : Station) → IsMerged k.holding l.holding desk grown → IsHolding grown → IsHolding l.holding
-      → IsHomeFrom (p - 1) h → (spare : Station) → spare ≡ with_view h.spare (both h.spare.view desk.view)
+  pub all_dissolved : (k : PartOwnerState) → Part k ≡ get_or (remove h.owners i) (i - 1) (Part k) → (grown : HoldingState) (desk : DeskState) → IsMerged k.holding l.holding desk grown → IsHolding grown → IsHolding l.holding
+      → IsHomeFrom (p - 1) h → (spare : DeskState) → spare ≡ with_view h.spare (both h.spare.view desk.view)
       → LeavesChanged board (IsDissolved p (Ok told)) (IsWithout p) h (record { regions = dissolved p h.regions; owners = set (remove h.owners i) (i - 1) (Part (record k { holding = grown })); spare = spare; width = h.width })
   all_dissolved k stood grown desk merged kept lawful home spare joined =
       let m : PartOwnerState = record k { holding = grown } in
-      let now : spare ≡ spare_with h.spare l.holding = joined ∙ ap (λ (d : Station). with_view h.spare (both h.spare.view d.view)) merged.back in
+      let now : spare ≡ spare_with h.spare l.holding = joined ∙ ap (λ (d : DeskState). with_view h.spare (both h.spare.view d.view)) merged.back in
       let was = dissolver_home h are p told answer i index l is k stood home in
       let desk_there : slice_get (desks_in h.owners) p ≡ Some l.holding.desk = get_number h are p i index (λ (o : PartOwnerState). o.holding.desk) l is in
       let here = dissolved_home h are p told answer i index l is k stood home in

@@ -1,5 +1,5 @@
 -- A divide among all owners: the part's owner exchanged, and that of the new part put in behind it.
-use Rattle.hlr_owners.proofs.Common.{Store, MayBecome, store_with, ◌≡◌, ◌∙◌, refl, sym, ap, ℕ, suc, ◌+◌, ◌<◌, ◌≤◌, List, [], ◌∷◌, length, get_or, set, map, true, arith, Some, Ok, position, insert, AllZip-long, TableId, divided, divide_answer, place_raised, is_part, Place, Region, blank, anew_from, zip_anew, IsDivide, divide_from_answer, divided_edit, divide_room, bound_inside, regions-divided, low_half, high_half, region_raised, Station, with_view, IsLeastSlot, alone, both, without, SLOTS, HoldingState, IsHolding, IsInside, IsHoldingDivided, AreDesks, slots_in, words_of, PartOwnerState, out_of, with_outs, free_slot, IsDivided, IsWithNew, book_in, desks_in, of_parts, store_in, IsKind, IsRegionOwner, IsHomeFrom, OwnersState, AreOwners, homes_in, RegionOwner, Part}
+use Rattle.hlr_owners.proofs.Common.{Store, MayBecome, store_with, ◌≡◌, ◌∙◌, refl, sym, ap, ℕ, suc, ◌+◌, ◌<◌, ◌≤◌, List, [], ◌∷◌, length, get_or, set, map, true, arith, Some, Ok, position, insert, AllZip-long, TableId, divided, divide_answer, place_raised, is_part, Place, Region, blank, anew_from, zip_anew, IsDivide, divide_from_answer, divided_edit, divide_room, bound_inside, regions-divided, low_half, high_half, region_raised, DeskState, with_view, IsLeastSlot, alone, both, without, SLOTS, HoldingState, IsHolding, IsInside, IsHoldingDivided, AreDesks, slots_in, words_of, PartOwnerState, out_of, with_outs, free_slot, IsDivided, IsWithNew, book_in, desks_in, of_parts, store_in, IsKind, IsRegionOwner, IsHomeFrom, OwnersState, AreOwners, homes_in, RegionOwner, Part}
 use Rattle.part_table.specs.declared.region.Place.TheVariants as place
 use Rattle.hlr_owners.proofs.HalvesLemmas.{divided_in}
 use Rattle.hlr_owners.proofs.HomeLemmas.{first_home, later_home}
@@ -71,8 +71,8 @@ module _ (h : OwnersState) (are : AreOwners h) (p at : ℕ) (told : ℕ × ℕ �
           outs-insert_part (set h.owners i (Part m)) ks (i + 1) n new behind ∙ ap (λ (owners : List RegionOwner). insert owners (i + 1) (Part n)) (outs-set h.owners ks i l m is still)
 
     -- a part that was divided
-    module _ (m n : PartOwnerState) (desk : Station) (is_divided : IsHoldingDivided at l.holding desk n.holding m.holding) (new : IsHolding n.holding) (kept : IsHolding m.holding) where
-      divided_owners : (spare : Station) → AreOwners (record { regions = divided p at h.regions; owners = owners_with m n; spare = spare; width = h.width }) × (book_in (owners_with m n) ≡ book_in h.owners)
+    module _ (m n : PartOwnerState) (desk : DeskState) (is_divided : IsHoldingDivided at l.holding desk n.holding m.holding) (new : IsHolding n.holding) (kept : IsHolding m.holding) where
+      divided_owners : (spare : DeskState) → AreOwners (record { regions = divided p at h.regions; owners = owners_with m n; spare = spare; width = h.width }) × (book_in (owners_with m n) ≡ book_in h.owners)
       divided_owners spare =
           let both = divided_in h.width (book_in h.owners) region l.holding owner.state at m.holding kept p desk n.holding is_divided new in
           owners_in h are (divided p at h.regions) (owners_with m n) spare (regions-divided p at h.regions told dividing are.are i index) (rw (divided_edit p at h.regions i index)
@@ -87,7 +87,7 @@ module _ (h : OwnersState) (are : AreOwners h) (p at : ℕ) (told : ℕ × ℕ �
         number_fits = let fits = (at_number h are p i index (λ (o : PartOwnerState). o.holding.desk) l is l.holding.desk).0 in omega arith
 
         desks_with : desks_in (owners_with m n) ≡ insert (desks_in h.owners) (p + 1) (with_view h.spare (alone h.spare.view slot))
-        desks_with = parts_with m n (λ (o : PartOwnerState). o.holding.desk) is_divided.given.desk ∙ ap (λ (d : Station). insert (desks_in h.owners) (p + 1) d) (is_divided.own ∙ own)
+        desks_with = parts_with m n (λ (o : PartOwnerState). o.holding.desk) is_divided.given.desk ∙ ap (λ (d : DeskState). insert (desks_in h.owners) (p + 1) d) (is_divided.own ∙ own)
 
         new_desks : AreDesks board (with_view h.spare (without h.spare.view slot)) (desks_in (owners_with m n))
         new_desks = rw desks_with (desks_divided board h.spare (desks_in h.owners) rules slot in_board least (p + 1) number_fits)
@@ -115,8 +115,8 @@ pub record LeavesChanged (board : TableId) (right : Store → Store → Type 0) 
 module _ (h : OwnersState) (are : AreOwners h) (p at : ℕ) (told : ℕ × ℕ × ℕ) (answer : divide_answer p at h.regions ≡ Ok told) (i : ℕ) (index : position (is_part p) h.regions ≡ Some i) (l : PartOwnerState) (is : Part l ≡ get_or h.owners i (Part l))
     (board : TableId) (rules : AreDesks board h.spare (desks_in h.owners)) (slot : ℕ) (in_board : slot < SLOTS) (least : IsLeastSlot h.spare.view slot) where
   -- it is so whatever those that are out have become, where nobody from the part on is
-  pub all_divided : (k : HoldingState) (n : PartOwnerState) (desk : Station) → IsHoldingDivided at l.holding desk n.holding k → IsHolding n.holding → IsHolding k → desk ≡ with_view h.spare (alone h.spare.view slot)
-      → IsHomeFrom p h → n.home ≡ true → (spare : Station) → spare ≡ with_view h.spare (without h.spare.view slot)
+  pub all_divided : (k : HoldingState) (n : PartOwnerState) (desk : DeskState) → IsHoldingDivided at l.holding desk n.holding k → IsHolding n.holding → IsHolding k → desk ≡ with_view h.spare (alone h.spare.view slot)
+      → IsHomeFrom p h → n.home ≡ true → (spare : DeskState) → spare ≡ with_view h.spare (without h.spare.view slot)
       → LeavesChanged board (IsDivided p at (Ok told)) (IsWithNew p) h (record { regions = divided p at h.regions; owners = insert (set h.owners i (Part (record l { holding = k }))) (i + 1) (Part n); spare = spare; width = h.width })
   all_divided k n desk is_divided new kept own home at_home spare left =
       let m : PartOwnerState = record l { holding = k } in
@@ -140,6 +140,6 @@ module _ (h : OwnersState) (are : AreOwners h) (p at : ℕ) (told : ℕ × ℕ �
       })
 
   -- a desk that was split off and joined again leaves the spare one
-  pub spare_again : h.spare.view.was_apart ≡ true → (left own back joined : Station) → own ≡ with_view h.spare (alone h.spare.view slot) → left ≡ with_view h.spare (without h.spare.view slot) → back ≡ own
+  pub spare_again : h.spare.view.was_apart ≡ true → (left own back joined : DeskState) → own ≡ with_view h.spare (alone h.spare.view slot) → left ≡ with_view h.spare (without h.spare.view slot) → back ≡ own
       → joined ≡ with_view left (both left.view back.view) → joined ≡ h.spare
   spare_again apart left own back joined is_own is_left same is_joined = is_joined ∙ rw (same, is_own, is_left) (rejoined board h.spare (desks_in h.owners) rules slot in_board least apart)

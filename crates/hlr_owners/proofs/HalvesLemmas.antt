@@ -1,5 +1,5 @@
 -- The rows of a stretch of subscribers in a book. A part cut in two, and two parts joined: their rules, and their rows.
-use Rattle.hlr_owners.proofs.Common.{◌≡◌, ◌∙◌, refl, sym, ap, ℕ, ◌≤◌, arith, List, [], ◌∷◌, Bool, true, false, nat_le, filter, AllByRecursion, nat_tests, by_test, filter_none, SubscriberRow, AccessInfoRow, SpecialFacilityRow, CallForwardingRow, Book, IsRowsOf, is_within, rows_between, empty_book, join_books, cut_low, cut_high, low_is_between, high_is_between, same_tables, cut_joined, cut_low_rows, cut_high_rows, inl, inr, ◌≢◌, ◌+◌, Touch, PartState, IsPart, low_between, high_between, both_ranges, low_half, high_half, part_half, piece_half, joint_region, touching, Place, Region, Side, Low, High, END, Station, HoldingState, PieceState, IsHolding, IsPiece, IsInside, IsGiven, IsTaken, IsHoldingDivided, IsMerged, as_piece, OwnerState, of_holding, of_piece, IsLawful, IsOwnerState, nat_lt, Some, ◌==◌}
+use Rattle.hlr_owners.proofs.Common.{◌≡◌, ◌∙◌, refl, sym, ap, ℕ, ◌≤◌, arith, List, [], ◌∷◌, Bool, true, false, nat_le, filter, AllByRecursion, nat_tests, by_test, filter_none, SubscriberRow, AccessInfoRow, SpecialFacilityRow, CallForwardingRow, Book, IsRowsOf, is_within, rows_between, empty_book, join_books, cut_low, cut_high, low_is_between, high_is_between, same_tables, cut_joined, cut_low_rows, cut_high_rows, inl, inr, ◌≢◌, ◌+◌, Touch, PartState, IsPart, low_between, high_between, both_ranges, low_half, high_half, part_half, piece_half, joint_region, touching, Place, Region, Side, Low, High, END, DeskState, HoldingState, PieceState, IsHolding, IsPiece, IsInside, IsGiven, IsTaken, IsHoldingDivided, IsMerged, as_piece, OwnerState, of_holding, of_piece, IsLawful, IsOwnerState, nat_lt, Some, ◌==◌}
 use Rattle.part_table.specs.declared.region.Place.TheVariants as place
 use Rattle.hlr_owners.proofs.HeldLemmas.{holding_keeps, piece_keeps}
 
@@ -220,7 +220,7 @@ module _ (width : ℕ) (book : Book) where
         (low_in width book at region (of_holding before) owned (of_holding after) given.part two (holding_keeps after kept) region.place, high_in width book at region (of_holding before) owned after.part (of_piece given) two (piece_keeps given piece) (place.Piece n))
 
     -- a part that was divided, and the new part
-    pub divided_in : (p : ℕ) (desk : Station) (new : HoldingState) → IsHoldingDivided at before desk new after → IsHolding new
+    pub divided_in : (p : ℕ) (desk : DeskState) (new : HoldingState) → IsHoldingDivided at before desk new after → IsHolding new
         → IsOwnerIn width book (low_half at region) (of_holding after) × IsOwnerIn width book (high_half p at region) (of_holding new)
     divided_in p desk new is is_new =
         let two = given_sides High at before (as_piece new) after owned.is.keeps.rules is.given in
@@ -237,7 +237,7 @@ module _ (width : ℕ) (book : Book) where
       (taken_sides High piece before after one.is.keeps.rules other.is.keeps.rules (one.is.zones ∙ sym other.is.zones) meets is) (holding_keeps after keeps) second.place
 
   -- a part with the rows of the one behind it
-  pub merged_in : (front part : Region) (before gone : HoldingState) (desk : Station) (after : HoldingState) → IsRowsOf 1 END book → IsOwnerIn width book front (of_holding before) → IsOwnerIn width book part (of_holding gone)
+  pub merged_in : (front part : Region) (before gone : HoldingState) (desk : DeskState) (after : HoldingState) → IsRowsOf 1 END book → IsOwnerIn width book front (of_holding before) → IsOwnerIn width book part (of_holding gone)
       → before.part.hi ≡ gone.part.lo → IsMerged before gone desk after → IsHolding after → IsOwnerIn width book (both_ranges front part) (of_holding after)
   merged_in front part before gone desk after rows one other meets is keeps =
       both_in width book gone.part.lo front part (of_holding before) (of_holding gone) (of_holding after) rows one other

@@ -1,5 +1,5 @@
 -- Who is at home: all parts, the part with a number, and whoever has an s_id.
-use Rattle.hlr_owners.proofs.Common.{by_test, ◌≡◌, refl, ℕ, zero, suc, ◌<◌, List, [], ◌∷◌, Bool, true, length, get_or, drop, arith, Some, ◌-◌, false, Option, position, IfOk, ◌↔◌, IsTrue, AllByRecursion, list_all, get_or_past, position-Some, Refusal, each_at, recut_answer, lies_in, CutMove, place_of, Place, is_part_there, blank, place_at, AreHome, PartOwnerState, IsHomeToCut, IsHomeToMove, is_home, homes_in, IsKind, OwnersState, AreOwners, IsPartHome, IsPlaceHome, IsHomeFor, AllHome, RegionOwner, Part, Piece, Result, Ok, Err}
+use Rattle.hlr_owners.proofs.Common.{by_test, ◌≡◌, refl, ℕ, zero, suc, ◌<◌, List, [], ◌∷◌, Bool, true, length, get_or, drop, arith, Some, ◌-◌, false, Option, position, IfOk, ◌↔◌, IsTrue, AllByRecursion, list_all, get_or_past, position-Some, Refusal, each_at, recut_answer, lies_in, CutMove, place_of, Place, is_part_there, blank, place_at, IsEachHome, PartOwnerState, IsHomeToCut, IsHomeToMove, is_home, homes_in, IsKind, OwnersState, AreOwners, IsPartHome, IsPlaceHome, IsHomeFor, AllHome, RegionOwner, Part, Piece, Result, Ok, Err}
 use Rattle.part_table.specs.declared.region.Place.TheVariants as place
 use Rattle.hlr_owners.proofs.ListLemmas.{each_drop}
 use Rattle.hlr_owners.proofs.PartLemmas.{part_state_home}
@@ -45,12 +45,12 @@ cut_home_of_all bounds h all = of_answer (recut_answer h.regions bounds)
     of_answer (Err why) = tt
 
 -- so is each owner
-pub each_home : (owners : List RegionOwner) → AllHome owners → AreHome owners
+pub each_home : (owners : List RegionOwner) → AllHome owners → IsEachHome owners
 each_home [] all = tt
 each_home (Part l ∷ owners) all = (all.0, each_home owners all.1)
 each_home (Piece b ∷ owners) all = (refl, each_home owners all)
 
-pub all_home : (owners : List RegionOwner) → AreHome owners → AllHome owners
+pub all_home : (owners : List RegionOwner) → IsEachHome owners → AllHome owners
 all_home [] each = tt
 all_home (Part l ∷ owners) each = (each.0, all_home owners each.1)
 all_home (Piece b ∷ owners) each = all_home owners each.1

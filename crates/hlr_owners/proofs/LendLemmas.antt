@@ -1,5 +1,5 @@
 -- A part lent out, and owners that stand for others while parts are out.
-use Rattle.hlr_owners.proofs.Common.{IsWide, ◌≡◌, ◌∙◌, refl, sym, ap, ℕ, zero, suc, ◌<◌, List, [], ◌∷◌, length, get_or, set, arith, true, false, Some, subst, Box, slice_get, position, Option, Global, AllZip, sum_by-cons, map-set_same, nat_tests, position-Some, slice_get_read, is_part, lies_in, IsConsecutive, TableId, Region, blank, HoldingState, PieceState, IsHolding, of_holding, Station, AreDesks, HasOneSlot, IsOfBoard, owns_one, PartOwnerState, state_of, states_in, IsRegionOwner, OwnersState, AreOwners, IsSameOwner, IsLaterOwner, IsBackFor, IsLent, desks_in, RegionOwner, Part, Piece}
+use Rattle.hlr_owners.proofs.Common.{IsWide, ◌≡◌, ◌∙◌, refl, sym, ap, ℕ, zero, suc, ◌<◌, List, [], ◌∷◌, length, get_or, set, arith, true, false, Some, subst, Box, slice_get, position, Option, Global, AllZip, sum_by-cons, map-set_same, nat_tests, position-Some, slice_get_read, is_part, lies_in, IsConsecutive, TableId, Region, blank, HoldingState, PieceState, IsHolding, of_holding, DeskState, AreDesks, HasOneSlot, IsOfBoard, owns_one, PartOwnerState, state_of, states_in, IsRegionOwner, OwnersState, AreOwners, IsSameOwner, IsLaterOwner, IsBackFor, IsLent, desks_in, RegionOwner, Part, Piece}
 use Rattle.hlr_owners.proofs.ZipLemmas.{each_while_out, sum_while_out}
 use Rattle.hlr_owners.proofs.StateLemmas.{lies_within}
 use Rattle.hlr_owners.proofs.DeskLemmas.{same_one}
@@ -30,7 +30,7 @@ pub ruled_later : (h : OwnersState) (ks : List RegionOwner) → AreOwners h → 
 ruled_later h ks are later = record { are = are.are; each = zip_later h.width h.regions h.owners ks later are.each; zones = are.zones }
 
 -- a desk that another one may stand for
-pub record IsLaterDesk (before after : Station) : Type 0 where
+pub record IsLaterDesk (before after : DeskState) : Type 0 where
   pub board : after.board ≡ before.board
   pub owned : after.view.owned ≡ before.view.owned
   pub wide : IsWide before.view → IsWide after.view
@@ -43,7 +43,7 @@ desks_zip (s ∷ owners) (k ∷ ks) later = absurd later.0
 desks_zip owners ks later = absurd later
 
 -- and their desks share the slots
-pub desks_later : (board : TableId) (spare : Station) (owners ks : List RegionOwner) → AllZip IsLaterOwner owners ks → AreDesks board spare (desks_in owners) → AreDesks board spare (desks_in ks)
+pub desks_later : (board : TableId) (spare : DeskState) (owners ks : List RegionOwner) → AllZip IsLaterOwner owners ks → AreDesks board spare (desks_in owners) → AreDesks board spare (desks_in ks)
 desks_later board spare owners ks later are = record {
   of_board = (are.of_board.0, each_while_out IsLaterDesk (IsOfBoard board) (IsOfBoard board) (λ one other pair is. record { same = pair.board ∙ is.same; wide = pair.wide is.wide }) (desks_in owners) (desks_in ks) (desks_zip owners ks later) are.of_board.1);
   shares = record {

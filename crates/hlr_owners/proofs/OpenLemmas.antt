@@ -1,5 +1,5 @@
 -- The store at opening: a part at home with an empty holding beside each region, one after another.
-use Rattle.hlr_owners.proofs.Common.{join_books, Book, empty_book, ◌≡◌, ap, ℕ, ◌+◌, ◌-◌, ◌<◌, ◌≤◌, arith, List, [], ◌∷◌, ◌++◌, length, get_or, take, map, true, ◌∙◌, refl, Ok, AllZip, AllByRecursion, range_with_len, take_more, length-map-range_with_len, IsRange, IsWidth, all_zipped_more, length_parts, no_pieces, within, length_regions, openable, parts_between, can_open, opening_bound, AreRegions, IsConsecutive, Region, OwnerState, of_holding, IsOpened, HoldingState, each_at, suc, take_all, length-map, AllZip-long, piece_number, pieces_of, Place, Station, WORDS, opening_from, state_of, states_in, desks_in, AllHome, IsKind, IsRegionOwner, AreOwners, store_in, RegionOwner, Part, Piece}
+use Rattle.hlr_owners.proofs.Common.{join_books, Book, empty_book, ◌≡◌, ap, ℕ, ◌+◌, ◌-◌, ◌<◌, ◌≤◌, arith, List, [], ◌∷◌, ◌++◌, length, get_or, take, map, true, ◌∙◌, refl, Ok, AllZip, AllByRecursion, range_with_len, take_more, length-map-range_with_len, IsRange, IsWidth, all_zipped_more, length_parts, no_pieces, within, length_regions, openable, parts_between, can_open, opening_bound, AreRegions, IsConsecutive, Region, OwnerState, of_holding, IsOpened, HoldingState, each_at, suc, take_all, length-map, AllZip-long, piece_number, pieces_of, Place, DeskState, WORDS, opening_from, state_of, states_in, desks_in, AllHome, IsKind, IsRegionOwner, AreOwners, store_in, RegionOwner, Part, Piece}
 use Rattle.hlr_owners.proofs.StateLemmas.{book_of_states}
 use Rattle.part_table.specs.Opening as table
 use Rattle.hlr_owners.proofs.HeldLemmas.{IsFresh, fresh_holding}
@@ -91,7 +91,7 @@ module _ (parts width i : ℕ) (regions : List Region) (owners : List RegionOwne
   all : AllZip (IsFresh width) regions (states_in owners)
   all = rw (take_all i regions past) at each
 
-  pub opened_ruled : (spare : Station) → AreRegions regions → AreOwners (record { regions = regions; owners = owners; spare = spare; width = width })
+  pub opened_ruled : (spare : DeskState) → AreRegions regions → AreOwners (record { regions = regions; owners = owners; spare = spare; width = width })
   opened_ruled spare are = record {
     are = are;
     each = owners_fresh width regions owners (rw (regions_are parts width regions can is) (no_pieces 0 1 (bounds_opened parts width))) home all;
@@ -101,7 +101,7 @@ module _ (parts width i : ℕ) (regions : List Region) (owners : List RegionOwne
   long : length (desks_in owners) ≡ parts
   long = omega (arith, AllZip-long (IsFresh width) regions (states_in owners) all, length-map owners state_of, desks_long owners home, regions_long parts width regions can is)
 
-  pub opened_store : (words : List ℕ) (spare : Station) → AreShared words spare (desks_in owners) → length words ≡ WORDS
+  pub opened_store : (words : List ℕ) (spare : DeskState) → AreShared words spare (desks_in owners) → length words ≡ WORDS
       → store_in (record { regions = regions; owners = owners; spare = spare; width = width }) ≡ opening_from parts width words
   opened_store words spare shared wide =
       rw (opened_book width regions (states_in owners) all, shared_words words spare (desks_in owners) shared wide, shared.slots, shared.seen, long, regions_are parts width regions can is) refl

@@ -1,5 +1,5 @@
 -- The desks where a part is divided, and where one is dissolved: the rules are kept, and what becomes of the words.
-use Rattle.hlr_owners.proofs.Common.{◌≡◌, ◌∙◌, refl, sym, ap, ℕ, suc, ◌+◌, ◌/◌, ◌%◌, ◌<◌, ◌≤◌, ◌≢◌, ◌==◌, max, nat_lt, arith, List, [], ◌∷◌, length, get_or, map, Bool, true, false, inl, inr, Some, insert, remove, slice_get, pos, sum_by, AllByRecursion, or-false, cases_eq, cases_lt, nat_tests, get_or_past, ext_get_or, sum_by-cons, sum_by-insert, sum_by-remove, slice_get_within, get_or_from_slice_get, TableId, by_test, each_at, CELLS, Station, with_view, owned_at, Owns, IsLeastSlot, IsWide, alone, without, both, taken_back, each_word, plus_word, minus_word, twin_of, leveled, slot_net, SLOTS, SLOT_WORDS, WORDS, again, owned_by_one, owned_by_both, number_theirs, number_ours, seen_both, not_theirs, each_slot_at, length-each_slot, each_word_at, length-each_word, set_within, IsBlankDesk, own_number, owns_one, words_of, slots_in, HasOneSlot, IsOfBoard, AreDesks, free_slot, least_slot, no_net, leveled_here, level_of, owns_alone, wide_alone, wide_without, net_none, only_slot, was_owned, each-append, take, drop, ◌||◌, if◌then◌else◌}
+use Rattle.hlr_owners.proofs.Common.{◌≡◌, ◌∙◌, refl, sym, ap, ℕ, suc, ◌+◌, ◌/◌, ◌%◌, ◌<◌, ◌≤◌, ◌≢◌, ◌==◌, max, nat_lt, arith, List, [], ◌∷◌, length, get_or, map, Bool, true, false, inl, inr, Some, insert, remove, slice_get, pos, sum_by, AllByRecursion, or-false, cases_eq, cases_lt, nat_tests, get_or_past, ext_get_or, sum_by-cons, sum_by-insert, sum_by-remove, slice_get_within, get_or_from_slice_get, TableId, by_test, each_at, CELLS, DeskState, with_view, owned_at, Owns, IsLeastSlot, IsWide, alone, without, both, taken_back, each_word, plus_word, minus_word, twin_of, leveled, slot_net, SLOTS, SLOT_WORDS, WORDS, again, owned_by_one, owned_by_both, number_theirs, number_ours, seen_both, not_theirs, each_slot_at, length-each_slot, each_word_at, length-each_word, set_within, IsBlankDesk, own_number, owns_one, words_of, slots_in, HasOneSlot, IsOfBoard, AreDesks, free_slot, least_slot, no_net, leveled_here, level_of, owns_alone, wide_alone, wide_without, net_none, only_slot, was_owned, each-append, take, drop, ◌||◌, if◌then◌else◌}
 use Rattle.hlr_owners.proofs.DeskLemmas.{words_at, none_owns, one_owns, sole_number, least_of_slots, only_listed}
 use Rattle.hlr_owners.proofs.ListLemmas.{each_take, each_drop}
 use Rattle.hlr_owners.proofs.SightLemmas.{has_slot, free_is}
@@ -17,7 +17,7 @@ number_of_two : (one other whole : Bool) (n : ℕ) → (if one then 1 else 0) + 
     → (if one then n else 0) + (if other then n else 0) ≡ (if whole then n else 0)
 number_of_two one other whole n sum = grind (arith, nat_tests)
 
-module _ (board : TableId) (spare : Station) (desks : List Station) (rules : AreDesks board spare desks) where
+module _ (board : TableId) (spare : DeskState) (desks : List DeskState) (rules : AreDesks board spare desks) where
   spare_wide : IsWide spare.view
   spare_wide = rules.of_board.0.wide
 
@@ -27,10 +27,10 @@ module _ (board : TableId) (spare : Station) (desks : List Station) (rules : Are
 
   -- its least slot is split off
   module _ (slot : ℕ) (in_board : slot < SLOTS) (least : IsLeastSlot spare.view slot) where
-    abbrev pub left : Station
+    abbrev pub left : DeskState
     left = with_view spare (without spare.view slot)
 
-    abbrev pub new : Station
+    abbrev pub new : DeskState
     new = with_view spare (alone spare.view slot)
 
     -- the new desk has it alone, and has published a net of 0 of each cell
@@ -104,12 +104,12 @@ twin_within slot w in_board own =
 one_of_two : (one other : Bool) → (one ≡ true → other ≡ true → ⊥) → (if one || other then 1 else 0) ≡ (if one then 1 else 0) + (if other then 1 else 0)
 one_of_two one other apart = grind (arith, nat_tests)
 
-module _ (board : TableId) (spare : Station) (desks : List Station) (rules : AreDesks board spare desks) (i : ℕ) (d : Station) (there : slice_get desks i ≡ Some d) (slot : ℕ) (least : IsLeastSlot d.view slot) where
+module _ (board : TableId) (spare : DeskState) (desks : List DeskState) (rules : AreDesks board spare desks) (i : ℕ) (d : DeskState) (there : slice_get desks i ≡ Some d) (slot : ℕ) (least : IsLeastSlot d.view slot) where
   -- the desk takes back what it has published, and is joined to the spare desk
-  abbrev pub back : Station
+  abbrev pub back : DeskState
   back = with_view d (taken_back d.view slot)
 
-  abbrev pub whole : Station
+  abbrev pub whole : DeskState
   whole = with_view spare (both spare.view back.view)
 
   -- the desk stands there, is of the board, and has that slot alone
@@ -138,7 +138,7 @@ module _ (board : TableId) (spare : Station) (desks : List Station) (rules : Are
       absurd (omega (arith, sum_by-cons (owns_one s) spare desks, one_owns desks i s d within is theirs))
 
   -- a sum over the desks that are left
-  removed : (f : Station → ℕ) → sum_by f (remove desks i) + f d ≡ sum_by f desks
+  removed : (f : DeskState → ℕ) → sum_by f (remove desks i) + f d ≡ sum_by f desks
   removed f = rw (← is) at (sum_by-remove f desks i d within)
 
   -- the spare desk has the slot beside its own then

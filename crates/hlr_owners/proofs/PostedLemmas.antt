@@ -1,5 +1,5 @@
 -- A posting of one desk among all, and of a part among all owners.
-use Rattle.hlr_owners.proofs.Common.{◌≡◌, ◌∙◌, refl, sym, ap, ℕ, zero, suc, ◌+◌, ◌<◌, ◌≤◌, arith, List, [], ◌∷◌, length, get_or, set, take, true, false, not, map, ℤ, pos, ◌-ℤ◌, sum_by, AllByRecursion, filter, range_with_len, map-set, sum_by-cons, sum_by-set, get_or-map, TableId, by_test, each_at, CELLS, Station, with_view, IsWide, posted, is_worn, View, SLOTS, wide_posted, is_zero, due, post_cells, owns_one, words_of, slots_in, HasOneSlot, IsOfBoard, AreDesks, raise_cells, post, net, Some, None, find, Result, Err, position, map-set_same, length-map, slice_get_read, slice_get_past, Refusal, book_of, PartState, is_part, Region, find_index, past_parts, blank, set_within, HoldingState, IsHolding, count_of, OwnerState, of_holding, Store, slots_of, PartOwnerState, IsPosting, states_in, book_in, desks_in, store_in, OwnersState, AreOwners, Part, OwnsAlone}
+use Rattle.hlr_owners.proofs.Common.{◌≡◌, ◌∙◌, refl, sym, ap, ℕ, zero, suc, ◌+◌, ◌<◌, ◌≤◌, arith, List, [], ◌∷◌, length, get_or, set, take, true, false, not, map, ℤ, pos, ◌-ℤ◌, sum_by, AllByRecursion, filter, range_with_len, map-set, sum_by-cons, sum_by-set, get_or-map, TableId, by_test, each_at, CELLS, DeskState, with_view, IsWide, posted, is_worn, View, SLOTS, wide_posted, is_zero, due, post_cells, owns_one, words_of, slots_in, HasOneSlot, IsOfBoard, AreDesks, raise_cells, post, net, Some, None, find, Result, Err, position, map-set_same, length-map, slice_get_read, slice_get_past, Refusal, book_of, PartState, is_part, Region, find_index, past_parts, blank, set_within, HoldingState, IsHolding, count_of, OwnerState, of_holding, Store, slots_of, PartOwnerState, IsPosting, states_in, book_in, desks_in, store_in, OwnersState, AreOwners, Part, OwnsAlone}
 use Rattle.holding.specs.Post as single
 use Rattle.holding.specs.Post.{all_cells}
 use Rattle.hlr_owners.proofs.ListLemmas.{each_filtered, each_take, set_same}
@@ -40,10 +40,10 @@ each_set P (first ∷ xs) zero x each new = (new, each.1)
 each_set P (first ∷ xs) (suc p) x each new = (each.0, each_set P xs p x each.1 new)
 
 -- a desk of the same board is one that knows something else
-pub desk_is : (before after : Station) → after.board ≡ before.board → after ≡ with_view before after.view
+pub desk_is : (before after : DeskState) → after.board ≡ before.board → after ≡ with_view before after.view
 desk_is before after same = ap (λ board. record { board = board; view = after.view }) same
 
-module _ (desks : List Station) (p : ℕ) (desk : Station) (within : p < length desks) (is : desk ≡ get_or desks p desk) (once : (slot : ℕ) → slot < SLOTS → sum_by (owns_one slot) desks ≡ 1)
+module _ (desks : List DeskState) (p : ℕ) (desk : DeskState) (within : p < length desks) (is : desk ≡ get_or desks p desk) (once : (slot : ℕ) → slot < SLOTS → sum_by (owns_one slot) desks ≡ 1)
     (wide : IsWide desk.view) (slot : ℕ) (in_board : slot < SLOTS) (own : OwnsAlone desk.view slot) where
   -- the words where the desk knows something else
   abbrev words_then : View → List ℕ
@@ -78,7 +78,7 @@ module _ (desks : List Station) (p : ℕ) (desk : Station) (within : p < length 
       rw (least_of_slots desk slot in_board own, ← same.0) (first, all.1)
 
 -- where one desk posted, the rules are kept
-pub desks_posted : (board : TableId) (spare : Station) (desks : List Station) (p : ℕ) (before after : Station) → p < length desks → before ≡ get_or desks p before → AreDesks board spare desks
+pub desks_posted : (board : TableId) (spare : DeskState) (desks : List DeskState) (p : ℕ) (before after : DeskState) → p < length desks → before ≡ get_or desks p before → AreDesks board spare desks
     → after.board ≡ before.board → after.view.owned ≡ before.view.owned → IsWide after.view → AreDesks board spare (set desks p after)
 desks_posted board spare desks p before after within is rules same owned wide = record {
   of_board = (rules.of_board.0, each_set (IsOfBoard board) desks p after rules.of_board.1 (record { same = same ∙ of.same; wide = wide }));
@@ -102,7 +102,7 @@ desks_posted board spare desks p before after within is rules same owned wide = 
     one = rw is (each_at HasOneSlot desks p before rules.shares.alone within)
 
 -- and each desk has its slots
-pub slots_posted : (desks : List Station) (p : ℕ) (before after : Station) → before ≡ get_or desks p before → after.view.owned ≡ before.view.owned → map slots_in (set desks p after) ≡ map slots_in desks
+pub slots_posted : (desks : List DeskState) (p : ℕ) (before after : DeskState) → before ≡ get_or desks p before → after.view.owned ≡ before.view.owned → map slots_in (set desks p after) ≡ map slots_in desks
 slots_posted desks p before after is owned =
     let same : slots_in after ≡ slots_in before = rw owned refl in
     map-set slots_in desks p after ∙ ap (λ slots. set (map slots_in desks) p slots) same ∙ set_same (map slots_in desks) p (slots_in before) (ap slots_in is ∙ sym (get_or-map slots_in desks p before))

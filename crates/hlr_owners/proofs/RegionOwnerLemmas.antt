@@ -1,5 +1,5 @@
 -- An owner among all: its rows, its desk, and what is done to it.
-use Rattle.hlr_owners.proofs.Common.{◌≡◌, ◌∙◌, refl, sym, ap, ℕ, zero, suc, ◌<◌, ◌≤◌, List, [], ◌∷◌, ◌++◌, length, get_or, set, arith, true, false, Some, position, insert, remove, Box, if◌then◌else◌, Global, Refusal, AllByRecursion, AllZip, map-set, position-Some, AllZip-long, get_or-map, s_id_of, IsOutcome, is_in_range, Book, IsRowsOf, IsWithin, Action, RowReply, apart, outcome-low, outcome-high, lies_in, AreRegions, IsConsecutive, Place, Region, END, blank, place_at, Station, PieceState, IsHolding, OwnerState, IsOwnerState, AreOwnerStates, of_holding, IsAnswered, is_loose, is_loose_place, PartOwnerState, state_of, states_in, book_in, of_part, of_parts, IsKind, IsRegionOwner, OwnersState, AreOwners, RegionOwner, Part, Piece}
+use Rattle.hlr_owners.proofs.Common.{◌≡◌, ◌∙◌, refl, sym, ap, ℕ, zero, suc, ◌<◌, ◌≤◌, List, [], ◌∷◌, ◌++◌, length, get_or, set, arith, true, false, Some, position, insert, remove, Box, if◌then◌else◌, Global, Refusal, AllByRecursion, AllZip, map-set, position-Some, AllZip-long, get_or-map, s_id_of, IsOutcome, is_in_range, Book, IsRowsOf, IsWithin, Action, RowReply, apart, outcome-low, outcome-high, lies_in, AreRegions, IsConsecutive, Place, Region, END, blank, place_at, DeskState, PieceState, IsHolding, OwnerState, IsOwnerState, of_holding, IsAnswered, is_loose, is_loose_place, PartOwnerState, state_of, states_in, book_in, of_part, of_parts, IsKind, IsRegionOwner, OwnersState, AreOwners, RegionOwner, Part, Piece}
 use Rattle.tatp_rows.specs.declared.refusal.Refusal.TheVariants as refusal
 use Rattle.tatp_actions.specs.declared.action.RowReply.TheVariants as row_reply
 use Rattle.part_table.specs.declared.region.Place.TheVariants as place
@@ -10,7 +10,7 @@ use Rattle.hlr_owners.proofs.ListLemmas.{set_same}
 use Rattle.hlr_owners.proofs.ZipLemmas.{zip_at, zip_put, zip_from_two, zip_mapped, zip_weaker}
 
 -- the owners beside their regions
-pub owned : (width : ℕ) (regions : List Region) (owners : List RegionOwner) → AllZip (IsRegionOwner width) regions owners → AreOwnerStates width regions (states_in owners)
+pub owned : (width : ℕ) (regions : List Region) (owners : List RegionOwner) → AllZip (IsRegionOwner width) regions owners → AllZip (IsOwnerState width) regions (states_in owners)
 owned width regions owners each = zip_mapped state_of (IsRegionOwner width) (IsOwnerState width) (λ r s is. is.state) regions owners each
 
 -- an owner beside a region, of its kind, with its rows in a book
@@ -39,7 +39,7 @@ module _ (h : OwnersState) (are : AreOwners h) where
   owner_in i s is within = rw is (zip_at (IsRegionOwnerIn h.width (book_in h.owners)) h.regions h.owners i blank s each_in within)
 
   -- owners that have the same rows beside other regions keep the rules, and have all rows
-  pub owners_in : (regions : List Region) (owners : List RegionOwner) (spare : Station) → AreRegions regions → AllZip (IsRegionOwnerIn h.width (book_in h.owners)) regions owners
+  pub owners_in : (regions : List Region) (owners : List RegionOwner) (spare : DeskState) → AreRegions regions → AllZip (IsRegionOwnerIn h.width (book_in h.owners)) regions owners
       → AreOwners (record { regions = regions; owners = owners; spare = spare; width = h.width }) × (book_in owners ≡ book_in h.owners)
   owners_in regions owners spare right each = (
     record {
@@ -61,7 +61,7 @@ region_behind from (r ∷ regions) (suc i) d consecutive lt =
 
 -- an action on an owner is that action on the rows of all
 pub acts_at : (width from : ℕ) (regions : List Region) (states : List OwnerState) (i : ℕ) (d : Region) (act : Action) (before after : OwnerState) (answer : RowReply)
-    → AreOwnerStates width regions states → IsConsecutive from regions → i < length regions → before ≡ get_or states i before → lies_in (s_id_of act) (get_or regions i d) ≡ true
+    → AllZip (IsOwnerState width) regions states → IsConsecutive from regions → i < length regions → before ≡ get_or states i before → lies_in (s_id_of act) (get_or regions i d) ≡ true
     → IsOutcome act before.part.book answer after.part.book → IsOutcome act (book_of_states states) answer (book_of_states (set states i after))
 acts_at width from [] states i d act before after answer each consecutive lt is inside done = absurd (omega arith)
 acts_at width from (r ∷ regions) [] i d act before after answer each consecutive lt is inside done = absurd each

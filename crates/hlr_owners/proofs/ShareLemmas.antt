@@ -1,12 +1,12 @@
 -- The slots of the board, shared out among desks one after another.
-use Rattle.hlr_owners.proofs.Common.{map-range_with_len_more, ◌≡◌, ◌≢◌, ◌∙◌, refl, sym, ap, ℕ, ◌+◌, ◌*◌, ◌/◌, ◌<◌, ◌≤◌, arith, List, [], ◌∷◌, ◌++◌, length, get_or, set, map, replicate, true, false, Bool, inl, inr, pos, sum_by, AllByRecursion, range_with_len, cases_eq, ints, length-append, get_or-replicate, length-replicate, length-set, map-append, get_or-set_same, get_or-set_other, ext_get_or, sum_by-cons, sum_by_push, TableId, blank_at, by_test, CELLS, each-append, Station, with_view, net_of, owned_at, Owns, IsWide, first_view, alone, without, slot_net, plus_word, minus_word, View, SLOTS, SLOT_WORDS, WORDS, length-each_word, set_within, HasSmallNets, owns_one, own_number, words_of, slots_in, HasOneSlot, IsOfBoard, AreDesks, AreLevel, AreOpening, owns_alone}
+use Rattle.hlr_owners.proofs.Common.{map-range_with_len_more, ◌≡◌, ◌≢◌, ◌∙◌, refl, sym, ap, ℕ, ◌+◌, ◌*◌, ◌/◌, ◌<◌, ◌≤◌, arith, List, [], ◌∷◌, ◌++◌, length, get_or, set, map, replicate, true, false, Bool, inl, inr, pos, sum_by, AllByRecursion, range_with_len, cases_eq, ints, length-append, get_or-replicate, length-replicate, length-set, map-append, get_or-set_same, get_or-set_other, ext_get_or, sum_by-cons, sum_by_push, TableId, blank_at, by_test, CELLS, each-append, DeskState, with_view, net_of, owned_at, Owns, IsWide, first_view, alone, without, slot_net, plus_word, minus_word, View, SLOTS, SLOT_WORDS, WORDS, length-each_word, set_within, HasSmallNets, owns_one, own_number, words_of, slots_in, HasOneSlot, IsOfBoard, AreDesks, AreLevel, AreOpening, owns_alone}
 use Rattle.view_board.specs.Nets.{net_from}
 use Rattle.hlr_owners.specs.Words.{blank_words}
 use Rattle.hlr_owners.proofs.DeskLemmas.{only_listed, words_at}
 
 -- the first slots are desks' own, one each, the spare desk has the others and has seen the words, and all desks have
 -- their numbers
-pub record AreShared (words : List ℕ) (spare : Station) (desks : List Station) : Type 0 where
+pub record AreShared (words : List ℕ) (spare : DeskState) (desks : List DeskState) : Type 0 where
   pub left : (slot : ℕ) → length desks ≤ slot → slot < SLOTS → Owns spare.view slot
   pub once : (slot : ℕ) → slot < SLOTS → sum_by (owns_one slot) (spare ∷ desks) ≡ 1
   pub alone : AllByRecursion HasOneSlot desks
@@ -15,7 +15,7 @@ pub record AreShared (words : List ℕ) (spare : Station) (desks : List Station)
   pub seen : spare.view.seen ≡ words
 
 -- at first the spare desk has all
-pub none_shared : (words : List ℕ) (spare : Station) (desks : List Station) → spare.view ≡ first_view words → desks ≡ [] → AreShared words spare desks
+pub none_shared : (words : List ℕ) (spare : DeskState) (desks : List DeskState) → spare.view ≡ first_view words → desks ≡ [] → AreShared words spare desks
 none_shared words spare desks first none = rw none (record {
   left = λ slot from below. own slot below;
   once = λ slot below. rw (sum_by-cons (owns_one slot) spare [], own slot below) refl;
@@ -29,7 +29,7 @@ none_shared words spare desks first none = rw none (record {
     own slot below = rw first (get_or-replicate SLOTS slot true false below)
 
 -- and is of the board
-pub first_of_board : (words : List ℕ) (board : TableId) (spare : Station) → spare.board ≡ board → spare.view ≡ first_view words → length words ≡ WORDS → IsOfBoard board spare
+pub first_of_board : (words : List ℕ) (board : TableId) (spare : DeskState) → spare.board ≡ board → spare.view ≡ first_view words → length words ≡ WORDS → IsOfBoard board spare
 first_of_board words board spare same first wide = record { same = same; wide = rw first (record { slots = length-replicate SLOTS true; numbers = wide; seen = wide }) }
 
 -- a desk that is split off has no other slot
@@ -37,7 +37,7 @@ alone_else : (v : View) (slot other : ℕ) → other ≢ slot → owned_at (alon
 alone_else v slot other differ = get_or-set_other (replicate SLOTS false) slot other true false differ ∙ blank_at SLOTS other false
 
 -- each slot of a desk is either of the two that it is split into
-pub split_once : (desk : Station) (slot other : ℕ) → slot < SLOTS → IsWide desk.view → Owns desk.view slot
+pub split_once : (desk : DeskState) (slot other : ℕ) → slot < SLOTS → IsWide desk.view → Owns desk.view slot
     → owns_one other (with_view desk (without desk.view slot)) + owns_one other (with_view desk (alone desk.view slot)) ≡ owns_one other desk
 split_once desk slot other below wide own = elim (cases_eq other slot) [
   | inl same ↦ (let left = get_or-set_same desk.view.owned slot false false (rw wide.slots below) in rw (same, left, (owns_alone desk.view slot below).0, own) refl)
@@ -49,7 +49,7 @@ numbered_more : (n : ℕ) → map (λ p. p ∷ []) (range_with_len 0 n) ++ (n �
 numbered_more n = sym (map-range_with_len_more (λ p. p ∷ []) 0 n n (omega arith))
 
 -- one more slot is split off
-module _ (words : List ℕ) (spare : Station) (desks : List Station) (slot : ℕ) (below : slot < SLOTS) (next : slot ≡ length desks) where
+module _ (words : List ℕ) (spare : DeskState) (desks : List DeskState) (slot : ℕ) (below : slot < SLOTS) (next : slot ≡ length desks) where
   pub one_of_board : (board : TableId) → AllByRecursion (IsOfBoard board) (spare ∷ desks)
       → AllByRecursion (IsOfBoard board) (with_view spare (without spare.view slot) ∷ desks ++ with_view spare (alone spare.view slot) ∷ [])
   one_of_board board each = (
@@ -69,7 +69,7 @@ module _ (words : List ℕ) (spare : Station) (desks : List Station) (slot : ℕ
         let moved = split_once spare slot other below wide (so_far.left slot (omega arith) below) in
         omega arith);
     alone = each-append HasOneSlot desks (with_view spare (alone spare.view slot) ∷ []) so_far.alone ((slot, owns_alone spare.view slot below), tt);
-    numbers = (so_far.numbers.0, each-append (λ (d : Station). d.view.numbers ≡ words) desks (with_view spare (alone spare.view slot) ∷ []) so_far.numbers.1 (so_far.numbers.0, tt));
+    numbers = (so_far.numbers.0, each-append (λ (d : DeskState). d.view.numbers ≡ words) desks (with_view spare (alone spare.view slot) ∷ []) so_far.numbers.1 (so_far.numbers.0, tt));
     slots = map-append slots_in desks (with_view spare (alone spare.view slot) ∷ []) ∙ rw (so_far.slots, only_listed (with_view spare (alone spare.view slot)) slot below (owns_alone spare.view slot below), long, next) (numbered_more (length desks));
     seen = so_far.seen;
   }
@@ -99,7 +99,7 @@ level_small words v slot level wide same c below =
     (omega (arith, ints), omega (arith, ints))
 
 -- the words of the board are those that it was opened with
-same_sum : (words : List ℕ) (w : ℕ) (desks : List Station) → AllByRecursion (λ d. d.view.numbers ≡ words) desks → sum_by (own_number w) desks ≡ sum_by (owns_one (w / SLOT_WORDS)) desks * get_or words w 0
+same_sum : (words : List ℕ) (w : ℕ) (desks : List DeskState) → AllByRecursion (λ d. d.view.numbers ≡ words) desks → sum_by (own_number w) desks ≡ sum_by (owns_one (w / SLOT_WORDS)) desks * get_or words w 0
 same_sum words w [] each = omega arith
 same_sum words w (d ∷ desks) each =
     let rest = same_sum words w desks each.1 in
@@ -109,7 +109,7 @@ same_sum words w (d ∷ desks) each =
     (λ e. let mine : own_number w d ≡ get_or words w 0 = rw (e, each.0) refl in let one : owns_one (w / SLOT_WORDS) d ≡ 1 = rw e refl in rw (numbers, slots, mine, one, rest) (omega arith))
     (λ e. let mine : own_number w d ≡ 0 = rw e refl in let one : owns_one (w / SLOT_WORDS) d ≡ 0 = rw e refl in rw (numbers, slots, mine, one, rest) (omega arith))
 
-pub shared_words : (words : List ℕ) (spare : Station) (desks : List Station) → AreShared words spare desks → length words ≡ WORDS → words_of (spare ∷ desks) ≡ words
+pub shared_words : (words : List ℕ) (spare : DeskState) (desks : List DeskState) → AreShared words spare desks → length words ≡ WORDS → words_of (spare ∷ desks) ≡ words
 shared_words words spare desks shared wide =
     ext_get_or 0 (words_of (spare ∷ desks)) words (length-each_word (λ w. sum_by (own_number w) (spare ∷ desks)) ∙ sym wide)
     (λ w within.
@@ -118,7 +118,7 @@ shared_words words spare desks shared wide =
     words_at (spare ∷ desks) w low ∙ same_sum words w (spare ∷ desks) shared.numbers ∙ ap (λ n. n * get_or words w 0) once ∙ omega arith)
 
 -- so they keep the rules of desks
-pub shared_desks : (words : List ℕ) (board : TableId) (spare : Station) (desks : List Station) → AreLevel words → AllByRecursion (IsOfBoard board) (spare ∷ desks) → AreShared words spare desks → AreDesks board spare desks
+pub shared_desks : (words : List ℕ) (board : TableId) (spare : DeskState) (desks : List DeskState) → AreLevel words → AllByRecursion (IsOfBoard board) (spare ∷ desks) → AreShared words spare desks → AreDesks board spare desks
 shared_desks words board spare desks level each shared =
     record { of_board = each; shares = record { once = shared.once; alone = shared.alone; idle = level_idle words spare.view level each.0.wide shared.numbers.0 } }
 

@@ -1,6 +1,6 @@
--- Slots that no part has: where there are fewer parts than slots there is one, and the least is the spare desk's least; and
--- what the spare desk sees is a right sight of the store.
-use Rattle.hlr_owners.proofs.Common.{◌≡◌, ◌∙◌, refl, sym, ap, ℕ, zero, suc, ◌+◌, ◌/◌, ◌<◌, ◌≤◌, ◌==◌, arith, List, [], ◌∷◌, get_or, map, true, false, inl, inr, sum_by, AllByRecursion, list_any, range_with_len, cases_eq, nat_tests, sum_by-cons, any-filter_same, TableId, by_test, Station, with_view, owned_at, Owns, IsRightSight, looked, each_word, SLOTS, SLOT_WORDS, WORDS, owns_one, own_number, words_of, slots_in, AreDesks, all_pieces, length, Bool, not, ◌-◌, least_here, least_more, least_passes, least, IsLeastSlot, HasOneSlot, free_slot}
+-- Slots that no part has: where there are fewer parts than slots there is one, and the least is the spare desk's least;
+-- and what the spare desk sees is a right sight of the store.
+use Rattle.hlr_owners.proofs.Common.{◌≡◌, ◌∙◌, refl, sym, ap, ℕ, zero, suc, ◌+◌, ◌/◌, ◌<◌, ◌≤◌, ◌==◌, arith, List, [], ◌∷◌, get_or, map, true, false, inl, inr, sum_by, AllByRecursion, list_any, range_with_len, cases_eq, nat_tests, sum_by-cons, any-filter_same, TableId, by_test, DeskState, with_view, owned_at, Owns, IsRightSight, looked, each_word, SLOTS, SLOT_WORDS, WORDS, owns_one, own_number, words_of, slots_in, AreDesks, all_pieces, length, Bool, not, ◌-◌, least_here, least_more, least_passes, least, IsLeastSlot, HasOneSlot, free_slot}
 use Rattle.hlr_owners.specs.Words.{all_slots}
 use Rattle.hlr_owners.proofs.DeskLemmas.{none_owns, words_at}
 
@@ -13,7 +13,7 @@ in_range a (suc n) slot from to = elim (cases_eq a slot) [
 ]
 
 -- a slot is among those of a desk where it is the desk's
-pub is_listed : (desk : Station) (slot : ℕ) → slot < SLOTS → list_any (λ own. own == slot) (slots_in desk) ≡ owned_at desk.view slot
+pub is_listed : (desk : DeskState) (slot : ℕ) → slot < SLOTS → list_any (λ own. own == slot) (slots_in desk) ≡ owned_at desk.view slot
 unfolding all_slots
 is_listed desk slot below =
     let kept = any-filter_same (λ own. own == slot) (owned_at desk.view) (owned_at desk.view slot) (λ k is. let same : k ≡ slot = grind (arith, nat_tests, is) in ap (owned_at desk.view) same) all_slots in
@@ -21,16 +21,16 @@ is_listed desk slot below =
     kept ∙ rw some (by_test (owned_at desk.view slot) (λ e. rw e refl) (λ e. rw e refl))
 
 -- the slots of desks that have one each, counted from 1
-abbrev numbers_of : (desks : List Station) → AllByRecursion HasOneSlot desks → List ℕ
+abbrev numbers_of : (desks : List DeskState) → AllByRecursion HasOneSlot desks → List ℕ
 numbers_of [] each = []
 numbers_of (desk ∷ desks) each = (each.0.0 + 1) ∷ numbers_of desks each.1
 
-numbers_long : (desks : List Station) (each : AllByRecursion HasOneSlot desks) → length (numbers_of desks each) ≡ length desks
+numbers_long : (desks : List DeskState) (each : AllByRecursion HasOneSlot desks) → length (numbers_of desks each) ≡ length desks
 numbers_long [] each = refl
 numbers_long (desk ∷ desks) each = ap suc (numbers_long desks each.1)
 
 -- a slot of theirs is among them
-numbers_have : (n slot : ℕ) (desks : List Station) (each : AllByRecursion HasOneSlot desks) → n ≡ slot + 1 → 1 ≤ sum_by (owns_one slot) desks → list_any (λ m. m == n) (numbers_of desks each) ≡ true
+numbers_have : (n slot : ℕ) (desks : List DeskState) (each : AllByRecursion HasOneSlot desks) → n ≡ slot + 1 → 1 ≤ sum_by (owns_one slot) desks → list_any (λ m. m == n) (numbers_of desks each) ≡ true
 numbers_have n slot [] each next some = absurd (omega arith)
 numbers_have n slot (desk ∷ desks) each next some =
     let sum = sum_by-cons (owns_one slot) desk desks in
@@ -41,7 +41,7 @@ numbers_have n slot (desk ∷ desks) each next some =
     by_test (each.0.0 + 1 == n) (λ f. rw f refl) (λ f. rw f rest))
 
 -- so a desk beside fewer desks than slots has one
-pub has_slot : (spare : Station) (desks : List Station) → ((slot : ℕ) → slot < SLOTS → sum_by (owns_one slot) (spare ∷ desks) ≡ 1) → AllByRecursion HasOneSlot desks → length desks < SLOTS
+pub has_slot : (spare : DeskState) (desks : List DeskState) → ((slot : ℕ) → slot < SLOTS → sum_by (owns_one slot) (spare ∷ desks) ≡ 1) → AllByRecursion HasOneSlot desks → length desks < SLOTS
     → (slot : ℕ) × Owns spare.view slot
 has_slot spare desks once alone few = elim (least_passes (owned_at spare.view) 0 SLOTS) [
   | inl found ↦ (least (owned_at spare.view) 0 SLOTS, found.0)
@@ -65,14 +65,14 @@ least_is test from (suc more) k low high is none = elim (cases_eq from k) [
 ]
 
 -- a slot is among those of some part where it counts in a part's desk
-any_listed : (slot : ℕ) → slot < SLOTS → (desks : List Station) → list_any (λ own. list_any (λ s. s == slot) own) (map slots_in desks) ≡ not (sum_by (owns_one slot) desks == 0)
+any_listed : (slot : ℕ) → slot < SLOTS → (desks : List DeskState) → list_any (λ own. list_any (λ s. s == slot) own) (map slots_in desks) ≡ not (sum_by (owns_one slot) desks == 0)
 any_listed slot below [] = refl
 any_listed slot below (desk ∷ desks) =
     rw (is_listed desk slot below, any_listed slot below desks, sum_by-cons (owns_one slot) desk desks) (by_test (owned_at desk.view slot)
     (λ e. let some : (1 + sum_by (owns_one slot) desks == 0) ≡ false = grind (arith, nat_tests) in rw e (ap not (sym some)))
     (λ e. let same : sum_by (owns_one slot) desks ≡ 0 + sum_by (owns_one slot) desks = omega arith in rw e (ap (λ n. not (n == 0)) same)))
 
-module _ (spare : Station) (desks : List Station) (once : (slot : ℕ) → slot < SLOTS → sum_by (owns_one slot) (spare ∷ desks) ≡ 1) where
+module _ (spare : DeskState) (desks : List DeskState) (once : (slot : ℕ) → slot < SLOTS → sum_by (owns_one slot) (spare ∷ desks) ≡ 1) where
   -- no part has it where it is the spare desk's
   spare_or_part : (slot : ℕ) → slot < SLOTS → not (list_any (λ own. list_any (λ s. s == slot) own) (map slots_in desks)) ≡ owned_at spare.view slot
   spare_or_part slot below =
@@ -92,7 +92,7 @@ none_passes : {X : Type 0} (test : X → Bool) (xs : List X) → AllByRecursion 
 none_passes test [] each = refl
 none_passes test (x ∷ xs) each = rw (each.0, none_passes test xs each.1) refl
 
-module _ (board : TableId) (spare : Station) (desks : List Station) (are : AreDesks board spare desks) where
+module _ (board : TableId) (spare : DeskState) (desks : List DeskState) (are : AreDesks board spare desks) where
   -- the word of a slot that no part has is the spare desk's number
   pub spare_word : (words : List ℕ) (w : ℕ) → IsRightSight spare.view words → w < WORDS → AllByRecursion (λ slots. list_any (λ own. own == w / SLOT_WORDS) slots ≡ false) (map slots_in desks)
       → get_or words w 0 ≡ get_or (words_of (spare ∷ desks)) w 0
@@ -116,5 +116,5 @@ module _ (board : TableId) (spare : Station) (desks : List Station) (are : AreDe
   }
 
 -- the words stay
-pub words_looked : (spare : Station) (desks : List Station) (words : List ℕ) → words_of (with_view spare (looked spare.view words) ∷ desks) ≡ words_of (spare ∷ desks)
+pub words_looked : (spare : DeskState) (desks : List DeskState) (words : List ℕ) → words_of (with_view spare (looked spare.view words) ∷ desks) ≡ words_of (spare ∷ desks)
 words_looked spare desks words = λ k. each_word (λ w. (sum_by-cons (own_number w) (with_view spare (looked spare.view words)) desks ∙ sym (sum_by-cons (own_number w) spare desks)) k)

@@ -1,5 +1,5 @@
 -- The owners of all regions, one beside each, and their rows as one book.
-use Rattle.hlr_owners.proofs.Common.{◌≡◌, ℕ, ◌<◌, ◌≤◌, arith, List, [], ◌∷◌, sym, ◌∙◌, ap, true, map, AllZip, Book, IsRowsOf, IsWithin, rows_between, join_books, book_of, rows_joined, Region, OwnerState, IsOwnerState, AreOwnerStates, nat_tests, low_between, own_rows, none_past, between_joined, within, lies_in, IsConsecutive, END, rules}
+use Rattle.hlr_owners.proofs.Common.{◌≡◌, ℕ, ◌<◌, ◌≤◌, arith, List, [], ◌∷◌, sym, ◌∙◌, ap, true, map, AllZip, Book, IsRowsOf, IsWithin, rows_between, join_books, book_of, rows_joined, Region, OwnerState, IsOwnerState, nat_tests, low_between, own_rows, none_past, between_joined, within, lies_in, IsConsecutive, END, rules}
 use Rattle.hlr_owners.proofs.HalvesLemmas.{between_none, between_halves, HasRows}
 use Rattle.hlr_owners.proofs.ZipLemmas.{zip_weaker}
 
@@ -12,7 +12,7 @@ pub own_region : (width : ℕ) (region : Region) (state : OwnerState) → IsOwne
 own_region width region state is = rw (← is.from, ← is.to) is.keeps.rules.rows
 
 -- the rows of all owners are those of all subscribers from where their regions begin
-pub state_rows : (width from : ℕ) (regions : List Region) (states : List OwnerState) → AreOwnerStates width regions states → IsConsecutive from regions
+pub state_rows : (width from : ℕ) (regions : List Region) (states : List OwnerState) → AllZip (IsOwnerState width) regions states → IsConsecutive from regions
     → IsRowsOf from END (book_of_states states)
 state_rows width from [] [] each consecutive = rw consecutive (search rules)
 state_rows width from (region ∷ regions) (state ∷ states) each consecutive =
@@ -28,7 +28,7 @@ abbrev IsBehind : ℕ → Region → Type 0
 IsBehind from region = (from ≤ region.lo) × (region.lo < region.hi) × (region.hi ≤ END)
 
 -- regions that follow one another are behind the number where they begin, and the rows of each are its owner's
-rows_behind : (width from : ℕ) (regions : List Region) (states : List OwnerState) → AreOwnerStates width regions states → IsConsecutive from regions
+rows_behind : (width from : ℕ) (regions : List Region) (states : List OwnerState) → AllZip (IsOwnerState width) regions states → IsConsecutive from regions
     → AllZip (λ (region : Region) (state : OwnerState). IsBehind from region × HasRows (book_of_states states) region state) regions states
 rows_behind width from [] [] each consecutive = tt
 rows_behind width from (region ∷ regions) (state ∷ states) each consecutive =
@@ -48,7 +48,7 @@ rows_behind width from (region ∷ regions) (state ∷ states) each consecutive 
     )
 rows_behind width from regions states each consecutive = absurd each
 
-pub states_rows : (width from : ℕ) (regions : List Region) (states : List OwnerState) → AreOwnerStates width regions states → IsConsecutive from regions → AllZip (HasRows (book_of_states states)) regions states
+pub states_rows : (width from : ℕ) (regions : List Region) (states : List OwnerState) → AllZip (IsOwnerState width) regions states → IsConsecutive from regions → AllZip (HasRows (book_of_states states)) regions states
 states_rows width from regions states each consecutive =
     zip_weaker {P = λ (r : Region) (o : OwnerState). IsBehind from r × HasRows (book_of_states states) r o} {Q = HasRows (book_of_states states)} (λ r o has. has.1) regions states (rows_behind width from regions states each consecutive)
 

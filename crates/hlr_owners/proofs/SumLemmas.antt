@@ -1,6 +1,6 @@
--- The counts of all owners, and sums over them, one after another: what they have published, what is pending of them, and
--- the counts of their rows.
-use Rattle.hlr_owners.proofs.Common.{◌≡◌, refl, ap, ℕ, ◌+◌, ◌*◌, ◌<◌, arith, List, [], ◌∷◌, length, ℤ, pos, ◌+ℤ◌, AllByRecursion, ints, cell, CELLS, cell_joined, IsConsecutive, Region, END, net_of, delta_at, empty_cell, OwnerState, AreOwnerStates, ◌^◌, ◌≤◌, get_or, take, length-map, length-take, take_all, AllZip-long, TableId, each-weaker, each_at, length_regions, most_pieces, pieces_of, Station, IsWide, AreDesks, IsOfBoard, pending_in, IsOwnerState, published, unpublished, net_none, state_of, states_in, book_in, desks_in, unposted, store_in, IsRegionOwner, OwnersState, AreOwners, RegionOwner, Part, Piece, count_of, few}
+-- The counts of all owners, and sums over them, one after another: what they have published, what is pending of them,
+-- and the counts of their rows.
+use Rattle.hlr_owners.proofs.Common.{◌≡◌, refl, ap, ℕ, ◌+◌, ◌*◌, ◌<◌, arith, List, [], ◌∷◌, length, ℤ, pos, ◌+ℤ◌, AllByRecursion, ints, cell, CELLS, cell_joined, IsConsecutive, Region, END, net_of, delta_at, empty_cell, OwnerState, ◌^◌, ◌≤◌, get_or, take, length-map, length-take, take_all, AllZip-long, TableId, each-weaker, each_at, length_regions, most_pieces, pieces_of, DeskState, IsWide, AreDesks, IsOfBoard, pending_in, IsOwnerState, published, unpublished, net_none, state_of, states_in, book_in, desks_in, unposted, store_in, IsRegionOwner, OwnersState, AreOwners, RegionOwner, Part, Piece, count_of, few, AllZip}
 use Rattle.hlr_owners.proofs.HeldLemmas.{IsAtMost, state_most, pending_fits, nobody_net}
 use Rattle.hlr_owners.proofs.ListLemmas.{sum_ints, each_take, sum_more}
 use Rattle.hlr_owners.proofs.StateLemmas.{book_of_states, state_rows, own_region}
@@ -9,13 +9,13 @@ use Rattle.hlr_owners.proofs.DeskLemmas.{nets_of_desks}
 use Rattle.hlr_owners.proofs.RegionOwnerLemmas.{owned, state_is}
 
 -- the count of a cell over the rows of an owner and of those behind it
-cell_behind : (width : ℕ) (region : Region) (regions : List Region) (state : OwnerState) (states : List OwnerState) (c : ℕ) → AreOwnerStates width (region ∷ regions) (state ∷ states)
+cell_behind : (width : ℕ) (region : Region) (regions : List Region) (state : OwnerState) (states : List OwnerState) (c : ℕ) → AllZip (IsOwnerState width) (region ∷ regions) (state ∷ states)
     → IsConsecutive region.hi regions → cell width c (book_of_states (state ∷ states)) ≡ cell width c state.part.book + cell width c (book_of_states states)
 cell_behind width region regions state states c each consecutive =
     cell_joined region.lo region.hi END state.part.book (book_of_states states) (own_region width region state each.0) (state_rows width region.hi regions states each.1 consecutive) width c
 
 -- the counts over the rows of each owner add up to the count over all rows
-pub cells_added : (width from : ℕ) (regions : List Region) (states : List OwnerState) (c : ℕ) → AreOwnerStates width regions states → IsConsecutive from regions
+pub cells_added : (width from : ℕ) (regions : List Region) (states : List OwnerState) (c : ℕ) → AllZip (IsOwnerState width) regions states → IsConsecutive from regions
     → sum_ints (λ (state : OwnerState). pos (count_of state.part c)) states ≡ pos (cell width c (book_of_states states))
 cells_added width from [] [] c each consecutive = rw (empty_cell width c) refl
 cells_added width from (region ∷ regions) (state ∷ states) c each consecutive =
@@ -23,7 +23,7 @@ cells_added width from (region ∷ regions) (state ∷ states) c each consecutiv
 cells_added width from regions states c each consecutive = absurd each
 
 -- what owners have published and what is pending of them is the count over all rows
-pub states_counted : (width from : ℕ) (regions : List Region) (states : List OwnerState) (c : ℕ) → c < CELLS → AreOwnerStates width regions states → IsConsecutive from regions
+pub states_counted : (width from : ℕ) (regions : List Region) (states : List OwnerState) (c : ℕ) → c < CELLS → AllZip (IsOwnerState width) regions states → IsConsecutive from regions
     → sum_ints (λ (state : OwnerState). net_of state.view c) states +ℤ sum_ints (λ (state : OwnerState). delta_at state.pending c) states ≡ pos (cell width c (book_of_states states))
 states_counted width from [] [] c below each consecutive = rw (empty_cell width c) refl
 states_counted width from (region ∷ regions) (state ∷ states) c below each consecutive =
@@ -43,7 +43,7 @@ pub record IsCountable (width : ℕ) (state : OwnerState) : Type 0 where
   pub published : (c : ℕ) → c < CELLS → IsAtMost state_most (net_of state.view c)
   pub counted : (c : ℕ) → c < CELLS → IsAtMost state_most (pos (count_of state.part c))
 
-pub each_countable : (width : ℕ) (regions : List Region) (states : List OwnerState) → AreOwnerStates width regions states → AllByRecursion (IsCountable width) states
+pub each_countable : (width : ℕ) (regions : List Region) (states : List OwnerState) → AllZip (IsOwnerState width) regions states → AllByRecursion (IsCountable width) states
 each_countable width = each_zipped (IsOwnerState width) (IsCountable width) (λ region state is. record {
   zones = is.zones;
   pending = pending_fits state is.keeps;
@@ -119,11 +119,11 @@ module _ (h : OwnersState) (are : AreOwners h) where
     -- a cell as published is what all owners have published
     pub published_is : sum_ints (λ (state : OwnerState). net_of state.view c) (states_in h.owners) ≡ published (store_in h) c
     published_is =
-        let wide = each-weaker {P = IsOfBoard board} {Q = λ (d : Station). IsWide d.view} (λ d is. is.wide) (h.spare ∷ desks_in h.owners) rules.of_board in
+        let wide = each-weaker {P = IsOfBoard board} {Q = λ (d : DeskState). IsWide d.view} (λ d is. is.wide) (h.spare ∷ desks_in h.owners) rules.of_board in
         let idle = net_none h.spare.view c (λ slot own. rules.shares.idle slot own c below) in
         omega (arith, ints, nets_of_desks (h.spare ∷ desks_in h.owners) c below wide, nets_same h.owners)
       where
-        nets_same : (owners : List RegionOwner) → sum_ints (λ (d : Station). net_of d.view c) (desks_in owners) ≡ sum_ints (λ (state : OwnerState). net_of state.view c) (states_in owners)
+        nets_same : (owners : List RegionOwner) → sum_ints (λ (d : DeskState). net_of d.view c) (desks_in owners) ≡ sum_ints (λ (state : OwnerState). net_of state.view c) (states_in owners)
         nets_same [] = refl
         nets_same (Part l ∷ owners) = let rest = nets_same owners in omega (arith, ints)
         nets_same (Piece b ∷ owners) = let rest = nets_same owners in let none = nobody_net c in omega (arith, ints)

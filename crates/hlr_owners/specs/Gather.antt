@@ -10,7 +10,7 @@ use Rattle.part_table.specs.Numbered.{numbered, do_follow}
 use Rattle.part_table.specs.declared.region.Place.TheVariants.{Part, Piece}
 use Rattle.part_table.specs.declared.region.Region.{Region}
 use Rattle.part_table.specs.declared.region.TheConstants.{MOST_PARTS, MOST_PIECES}
-use Rattle.view_board.specs.Desks.{Station}
+use Rattle.view_board.specs.Desks.{DeskState}
 use Rattle.holding.specs.Held.{HoldingState, PieceState}
 use Rattle.hlr_owners.specs.Desks.{desk_of, ShareSlots, words_of, slots_in}
 use Rattle.hlr_owners.specs.Held.{OwnerState, of_holding, of_piece}
@@ -20,11 +20,11 @@ use Rattle.hlr_owners.specs.Store.{Store}
 abbrev pub states_of : List HoldingState → List PieceState → List OwnerState
 states_of holdings pieces = map of_holding holdings ++ map of_piece pieces
 
--- the range of a holding, and of a piece: of the place only its kind counts
+-- the range of a holding, as a region in which the number counts for nothing
 abbrev pub holding_range : HoldingState → Region
 holding_range holding = record { lo = holding.part.lo; hi = holding.part.hi; place = Part 0 }
 
--- the range of a piece, as a region in which the number counts for nothing
+-- the range of a piece, likewise
 abbrev pub piece_range : PieceState → Region
 piece_range piece = record { lo = piece.part.lo; hi = piece.part.hi; place = Piece 0 }
 
@@ -33,7 +33,7 @@ abbrev pub ranges_of : List HoldingState → List PieceState → List Region
 ranges_of holdings pieces = in_order (λ range. range.lo) (map holding_range holdings ++ map piece_range pieces)
 
 -- all desks are the board's, and share its slots
-pub record MayGather (board : TableId) (spare : Station) (holdings : List HoldingState) : Type 0 where
+pub record MayGather (board : TableId) (spare : DeskState) (holdings : List HoldingState) : Type 0 where
   pub same : AllByRecursion (λ desk. desk.board ≡ board) (spare ∷ map desk_of holdings)
   pub shares : ShareSlots spare (map desk_of holdings)
 
@@ -47,7 +47,7 @@ misfit width holdings pieces =
     else None
 
 -- the store that they make: the rows in the order of the ranges, the parts and pieces numbered in that order
-abbrev pub gathered : ℕ → Station → List HoldingState → List PieceState → Store
+abbrev pub gathered : ℕ → DeskState → List HoldingState → List PieceState → Store
 gathered width spare holdings pieces = record {
   book = book_of (map (λ state. state.part) (in_order (λ state. state.part.lo) (states_of holdings pieces)));
   regions = numbered 0 1 (ranges_of holdings pieces);

@@ -1,6 +1,5 @@
 -- The owners of all regions, parts and loose pieces, and the rules that they keep together.
 use Rattle.std.specs.Prelude.{◌≡◌, ℕ, ◌<◌, List, [], ◌∷◌, ℤ, pos, ◌+ℤ◌}
-use Rattle.std.specs.List.{AllZip}
 use Rattle.tatp_actions.specs.Part.{PartState, IsPart}
 use Rattle.tatp_actions.specs.declared.cells.TheConstants.{CELLS}
 use Rattle.part_table.specs.declared.region.Region.{Region}
@@ -41,7 +40,3 @@ pub record IsOwnerState (width : ℕ) (region : Region) (state : OwnerState) : T
   pub to : state.part.hi ≡ region.hi
   pub zones : state.part.width ≡ width
   pub keeps : IsLawful state
-
--- each region has its owner, in order
-abbrev pub AreOwnerStates : ℕ → List Region → List OwnerState → Type 0
-AreOwnerStates width regions states = AllZip (IsOwnerState width) regions states

@@ -9,7 +9,7 @@ use Rattle.part_table.specs.declared.region.Region.{Region}
 use Rattle.holding.specs.Held.{HoldingState, IsHolding}
 use Rattle.hlr_owners.specs.WhileOut.{IsMovedWhileOut}
 use Rattle.hlr_owners.specs.Out.{outs_in}
-use Rattle.view_board.specs.Desks.{Station}
+use Rattle.view_board.specs.Desks.{DeskState}
 use Rattle.hlr_owners.specs.Owners.{OwnersState, homes_in, is_home, of_part}
 use Rattle.hlr_owners.specs.Store.{Store}
 use Rattle.hlr_owners.specs.declared.part_owner.RegionOwner.{RegionOwner}
@@ -19,8 +19,8 @@ abbrev pub AreSummable : (ℕ → ℤ) → Type 0
 AreSummable sum = (c : ℕ) → c < CELLS → (neg_ℤ (pos (2 ^ 60)) ≤ℤ sum c) × (sum c ≤ℤ pos (2 ^ 60))
 
 -- each owner is at home
-abbrev pub AreHome : List RegionOwner → Type 0
-AreHome owners = AllByRecursion (λ (owner : RegionOwner). is_home owner ≡ true) owners
+abbrev pub IsEachHome : List RegionOwner → Type 0
+IsEachHome owners = AllByRecursion (λ (owner : RegionOwner). is_home owner ≡ true) owners
 
 -- a holding of a region that has no row
 pub record IsOpened (region : Region) (width : ℕ) (holding : HoldingState) : Type 0 where
@@ -46,5 +46,5 @@ pub record IsMovedAlone (before after : OwnersState) : Type 0 where
   pub while_out : IsMovedWhileOut before after
 
 -- the desk of a part, and none of a piece
-abbrev pub desk_at : RegionOwner → List Station
+abbrev pub desk_at : RegionOwner → List DeskState
 desk_at owner = of_part (λ part_owner_state. part_owner_state.holding.desk) owner

@@ -11,7 +11,7 @@ use Rattle.part_table.specs.declared.region.Place.TheVariants as place
 use Rattle.part_table.specs.declared.region.Region.{Region}
 use Rattle.part_table.specs.declared.region.Side.{Side}
 use Rattle.part_table.specs.declared.region.Side.TheVariants.{Low, High}
-use Rattle.view_board.specs.Desks.{Station}
+use Rattle.view_board.specs.Desks.{DeskState}
 use Rattle.view_board.specs.Views.{IsWide}
 use Rattle.holding.specs.Held.{HoldingState}
 use Rattle.hlr_owners.specs.Desks.{words_of, slots_in}
@@ -45,7 +45,7 @@ of_parts f [] = []
 of_parts f (owner ∷ owners) = of_part f owner ++ of_parts f owners
 
 -- the desks of the parts, by their numbers
-abbrev pub desks_in : List RegionOwner → List Station
+abbrev pub desks_in : List RegionOwner → List DeskState
 desks_in owners = of_parts (λ part_owner_state. part_owner_state.holding.desk) owners
 
 -- the holding of a part, and none of a piece
@@ -64,7 +64,7 @@ homes_in owners = of_parts (λ part_owner_state. part_owner_state.home) owners
 abbrev pub unposted : List RegionOwner → ℕ → ℤ
 unposted owners c = pending_in (states_in owners) c
 
--- nobody is out
+-- an owner is at home, as a loose piece always is
 abbrev pub is_home : RegionOwner → Bool
 is_home (Part part_owner_state) = part_owner_state.home
 is_home (Piece b) = true
@@ -85,7 +85,7 @@ pub record IsRegionOwner (width : ℕ) (region : Region) (owner : RegionOwner) :
 pub record OwnersState : Type 0 where
   pub regions : List Region
   pub owners : List RegionOwner
-  pub spare : Station
+  pub spare : DeskState
   pub width : ℕ
 
 -- the store that they are seen as; of a part that is lent, as it was then

@@ -5,7 +5,7 @@ use Rattle.tatp_rows.specs.declared.refusal.Refusal.{Refusal}
 use Rattle.part_table.specs.Dissolve.{dissolved}
 use Rattle.part_table.specs.Divide.{divided}
 use Rattle.part_table.specs.Least.{least}
-use Rattle.view_board.specs.Desks.{Station, with_view}
+use Rattle.view_board.specs.Desks.{DeskState, with_view}
 use Rattle.view_board.specs.Views.{IsLeastSlot, both, taken_back, without}
 use Rattle.view_board.specs.Words.{leveled}
 use Rattle.view_board.specs.declared.words.TheConstants.{SLOTS}
@@ -58,7 +58,7 @@ pub record IsWithNew (part : ℕ) (before after : OwnersState) : Type 0 where
 pub record IsWithout (part : ℕ) (before after : OwnersState) : Type 0 where
   pub homes : homes_in after.owners ≡ remove (homes_in before.owners) part
   pub outs : outs_in after.owners ≡ remove (outs_in before.owners) part
-  pub gone : Station
+  pub gone : DeskState
   pub there : slice_get (desks_in before.owners) part ≡ Some gone
   pub slot : ℕ
   pub least : IsLeastSlot gone.view slot

@@ -18,11 +18,11 @@ use Rattle.hlr_owners.specs.Owners.{IsRegionOwner, store_in}
 use Rattle.hlr_owners.specs.declared.part_owner.RegionOwner.{RegionOwner}
 use Rattle.hlr_owners.specs.declared.scattered.Scattered.{Scattered}
 
--- its holdings, and its pieces
+-- the holdings of a register that was taken apart
 abbrev pub holdings_in : Scattered → List HoldingState
 holdings_in apart = unboxed apart.holdings.items
 
--- the pieces of a register that was taken apart
+-- its pieces
 abbrev pub pieces_in : Scattered → List PieceState
 pieces_in apart = unboxed apart.pieces.items
 

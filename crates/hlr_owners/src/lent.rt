@@ -53,6 +53,7 @@ impl Owners {
         ensures { (i : ℕ) → IsBackFor (slice_get self.old.owners i) holding.value
             → self.new ≡ record self.old { owners = slice_set self.old.owners i (RegionOwner.Part (record { holding = holding.value; home = true })) } }
     {
+        holding.rules();
         let i = self.owner_of(holding.lo());
         match &mut self.owners[i] {
             RegionOwner::Part(part_owner) => part_owner.back(holding),

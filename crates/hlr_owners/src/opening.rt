@@ -81,8 +81,9 @@ fn opened(
 }
 
 impl Owners {
-    /// Makes empty parts with their shares of all subscribers, no loose piece, and a board of these words, of which each
-    /// part has one slot; `Field` where a word passes `LIMIT`, else `Memory` where a growth was refused.
+    /// Makes empty parts with their shares of all subscribers, no loose piece, and a board of these words, of which
+    /// each part has one slot; `Field` where a word passes `LIMIT`, else `Memory` where a growth was refused. Parts
+    /// have to be 1..=16, the zones' width 1..=524,288, and each slot has to have a net of 0 in each cell.
     pub fn open(alloc: Global, parts: u8, width: u32, words: &[u64; WORDS]) -> Result<Self, Refusal>
         requires can { HasOpening parts width }
         requires level { AreLevel words.now }

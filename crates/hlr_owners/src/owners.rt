@@ -73,8 +73,8 @@ fn number_of(holding: &Holding, s_id: u32) -> Option<Number>
 }
 
 impl Owners {
-    /// Tells the prover that each region has its owner beside it, and that the desks are the board's and share its slots.
-    /// It does nothing.
+    /// Tells the prover that each region has its owner beside it, and that the desks are the board's and share its
+    /// slots. It does nothing.
     #[inline(always)]
     pub fn rules(&self)
         ensures ruled { AreOwners self.now }
@@ -121,8 +121,8 @@ impl Owners {
         }
     }
 
-    /// Does an edit of the rows of its subscriber, who is in the region with this index. Where that is a loose piece's, the
-    /// answer is `Moving`, after `Field`.
+    /// Does an edit of the rows of its subscriber, who is in the region with this index. Where that is a loose piece's,
+    /// the answer is `Moving`, after `Field`.
     pub fn edit_in<E: Edit>(&mut self, i: usize, edit: E) -> Result<(), Refusal>
         requires owner { position (lies_in (s_id_of (E.action edit))) self.old.regions ≡ Some i }
         requires home { IsHomeFor (s_id_of (E.action edit)) self.old }

@@ -44,6 +44,7 @@ impl RangeOwner for Holding {
     ghost keeps = { IsHolding };
 
     fn range(&self) -> Region {
+        self.rules();
         Region {
             lo: self.lo(),
             hi: self.hi(),
@@ -70,6 +71,7 @@ impl RangeOwner for Piece {
     ghost keeps = { IsPiece };
 
     fn range(&self) -> Region {
+        self.rules();
         Region {
             lo: self.lo(),
             hi: self.hi(),

@@ -23,7 +23,7 @@ pub use Rattle.hlr_core.specs.Index.{number_pair}
 pub use Rattle.hlr_core.specs.Later.{AreLater, IsBackWith, IsLater, numbers_of, with_owners}
 pub use Rattle.hlr_core.specs.Route.{IsRightNow, IsRightSent, IsRouted, is_here}
 pub use Rattle.hlr_core.specs.Run.{IsOrderStep, IsRun}
-pub use Rattle.hlr_core.specs.Session.{IsDoneAt, IsJobDone, IsJobOf, IsWithinJob}
+pub use Rattle.hlr_core.specs.Session.{IsDoneAt, IsJobDone, IsJobOf, IsNumberless, IsWithinJob}
 pub use Rattle.hlr_core.specs.Step.{IsAskedStep, IsOwnedStep, IsStep, action_for, dissolved_reply, divided_reply, given_reply, posted_reply, reply_of, taken_reply}
 pub use Rattle.hlr_core.specs.Tasks.{job_of}
 pub use Rattle.hlr_core.specs.WhileOut.{IsRecutWhileOut, IsStepWhileOut, register_with}
@@ -76,13 +76,13 @@ pub use Rattle.tatp_actions.specs.declared.action.RowReply.{RowReply}
 pub use Rattle.tatp_rows.proofs.CrossingLemmas.{tuple_send}
 pub use Rattle.tatp_rows.proofs.OrderedLemmas.{by_test}
 pub use Rattle.tatp_rows.specs.declared.refusal.Refusal.{Refusal}
-pub use Rattle.view_board.specs.Desks.{Station, with_view}
+pub use Rattle.view_board.specs.Desks.{DeskState, with_view}
 pub use Rattle.view_board.specs.Views.{looked}
 pub use Rattle.hlr_workers.specs.Finish.{HasDone, IsAtWork, IsSessionMore, MaySend, Sent, sent_with}
 pub use Rattle.hlr_workers.specs.Inside.{AreBrought, AreIdle, AreWorkersChanged, Gone, IsAnswered, IsBehind, IsHomeAgain, IsOut, IsPlace, IsSentTo, New, PartChange, Same, is_sent_more, part_change_of, put_answers, with_part_change}
 pub use Rattle.hlr_workers.specs.Kept.{AllNumberless, HasWorker, InOrder, IsKept, NoneOut, WorkersState, engaged, jobs_at}
 pub use Rattle.hlr_workers.specs.Relay.{AreJobs, AreWithin, IsInShape, IsKnown, IsRelayed, IsStarted, IsWellSent, job_pair, jobs_in, jobs_of, lent_of, log, nothing}
-pub use Rattle.hlr_workers.specs.Session.{AreNumberless, IsNumberless, IsSession}
+pub use Rattle.hlr_workers.specs.Session.{AreNumberless, IsSession}
 pub use Rattle.hlr_workers.specs.Standing.{AreEnds, Asked, Cut, Engaged, HasKept, IsAsBefore, IsSessionBy, IsSettled, Stands, Took, TookNext, answers_by, answers_with, changes_parts, events_in, numbered, numbered_in, orders_of, store_at}
 pub use Rattle.hlr_workers.specs.declared.message.Lent.{Lent}
 pub use Rattle.hlr_workers.specs.declared.message.Log.{Log}

@@ -1,5 +1,5 @@
 -- The moves of an engine: where it stands after each.
-use Rattle.hlr_workers.proofs.Common.{◌≡◌, ◌∙◌, refl, sym, ap, subst, ℕ, zero, suc, ◌+◌, ◌<◌, ◌≤◌, List, [], ◌∷◌, ◌++◌, length, get_or, set, arith, true, false, Bool, Some, None, inl, inr, Option, Result, Ok, Vec, slice_get, vec_capacity, if◌then◌else◌, ◌-◌, AllByRecursion, get_or_default, get_or_past, length-set, set-get_or, set-set, cases_lt, none-some, same_Some, slice_get_within, slice_get-get_or, slice_get_read, by_test, Refusal, HoldingState, Job, Station, with_view, looked, PartOwnerState, out_of, outs_in, with_out, with_outs, recut_answer, CutMove, parts_of, IsHomeToCut, IsHomeToMove, AllHome, AreOwners, IsLent, OwnersState, desks_in, part_holdings, homes_in, of_parts, store_in, Store, RegionOwner, Part, Piece, ahead, set_number, words_looked, IsRecutWhileOut, IsStepWhileOut, register_with, IsLaterDesk, HaveSameHomes, is_by_number, AreLater, IsLater, with_owners, IsRun, IsRightNow, IsRightSent, is_here, IsJobDone, IsJobOf, IsStep, Event, SubscriberData, NewDestination, AccessData, UpdateSubscriber, UpdateLocation, InsertForwarding, DeleteForwarding, AddSubscriber, AddAccess, AddFacility, SetActive, SetNumber, Give, Take, Divide, Dissolve, Reply, desk_same, all_later_after, all_later_self, all_ruled_later, put_later, AreBrought, AreIdle, IsAnswered, IsBehind, IsHomeAgain, IsOut, AreWorkersChanged, IsSentTo, PartChange, put_answers, with_part_change, part_change_of, AllNumberless, WorkersState, IsKept, NoneOut, engaged, nothing, AreNumberless, AreEnds, Cut, IsAsBefore, IsSettled, Stands, Took, TookNext, answers_by, answers_with, changes_parts, orders_of, store_at}
+use Rattle.hlr_workers.proofs.Common.{◌≡◌, ◌∙◌, refl, sym, ap, subst, ℕ, zero, suc, ◌+◌, ◌<◌, ◌≤◌, List, [], ◌∷◌, ◌++◌, length, get_or, set, arith, true, false, Bool, Some, None, inl, inr, Option, Result, Ok, Vec, slice_get, vec_capacity, if◌then◌else◌, ◌-◌, AllByRecursion, get_or_default, get_or_past, length-set, set-get_or, set-set, cases_lt, none-some, same_Some, slice_get_within, slice_get-get_or, slice_get_read, by_test, Refusal, HoldingState, Job, DeskState, with_view, looked, PartOwnerState, out_of, outs_in, with_out, with_outs, recut_answer, CutMove, parts_of, IsHomeToCut, IsHomeToMove, AllHome, AreOwners, IsLent, OwnersState, desks_in, part_holdings, homes_in, of_parts, store_in, Store, RegionOwner, Part, Piece, ahead, set_number, words_looked, IsRecutWhileOut, IsStepWhileOut, register_with, IsLaterDesk, HaveSameHomes, is_by_number, AreLater, IsLater, with_owners, IsRun, IsRightNow, IsRightSent, is_here, IsJobDone, IsJobOf, IsStep, Event, SubscriberData, NewDestination, AccessData, UpdateSubscriber, UpdateLocation, InsertForwarding, DeleteForwarding, AddSubscriber, AddAccess, AddFacility, SetActive, SetNumber, Give, Take, Divide, Dissolve, Reply, desk_same, all_later_after, all_later_self, all_ruled_later, put_later, AreBrought, AreIdle, IsAnswered, IsBehind, IsHomeAgain, IsOut, AreWorkersChanged, IsSentTo, PartChange, put_answers, with_part_change, part_change_of, AllNumberless, WorkersState, IsKept, NoneOut, engaged, nothing, AreNumberless, AreEnds, Cut, IsAsBefore, IsSettled, Stands, Took, TookNext, answers_by, answers_with, changes_parts, orders_of, store_at}
 use Rattle.hlr_core.specs.declared.event.Event.TheVariants.{Post}
 use Rattle.hlr_workers.proofs.WorkersLemmas.{as_homes, as_parts, lent_outs, numberless_of, out_part}
 use Rattle.hlr_workers.proofs.RegisterLemmas.{IsPartAt, ends_later, out_done, out_ends, out_owners, part_at, owner_store, with_outs_same}
@@ -436,7 +436,7 @@ here_after workers replies mid filled was now r is event step same later = recor
   places = was.places;
   capacity = was.capacity;
   spare = λ none. same none ∙ spare;
-  desk = subst (λ (s : Station). IsLaterDesk s now.register.spare) spare later;
+  desk = subst (λ (s : DeskState). IsLaterDesk s now.register.spare) spare later;
 }
   where
     spare : mid.register.spare ≡ workers.register.spare

@@ -1,5 +1,5 @@
 -- What a session keeps.
-use Rattle.hlr_workers.proofs.Common.{◌≡◌, ◌∙◌, refl, ap, subst, ℕ, suc, List, [], ◌∷◌, ◌++◌, length, Station, PartState, HoldingState, Job, Act, Post, IsSameOwner, IsJobDone, IsWithinJob, Reply, AreNumberless, IsNumberless, IsSession}
+use Rattle.hlr_workers.proofs.Common.{◌≡◌, ◌∙◌, refl, ap, subst, ℕ, suc, List, [], ◌∷◌, ◌++◌, length, DeskState, PartState, HoldingState, Job, Act, Post, IsSameOwner, IsJobDone, IsWithinJob, Reply, AreNumberless, IsNumberless, IsSession}
 
 -- one job more
 pub session_more : (a : HoldingState) (jobs : List (ℕ × Job)) (answers : List (ℕ × Reply)) (b : HoldingState) (job : ℕ × Job) (answer : ℕ × Reply) (c : HoldingState)
@@ -23,8 +23,8 @@ job_same (Act act) a answer b done = record {
   lo = done.range.0;
   hi = done.range.1;
   width = done.range.2;
-  board = ap (λ (d : Station). d.board) done.desk.0;
-  owned = ap (λ (d : Station). d.view.owned) done.desk.0;
+  board = ap (λ (d : DeskState). d.board) done.desk.0;
+  owned = ap (λ (d : DeskState). d.view.owned) done.desk.0;
 }
 job_same (Post limit) a answer b done = record {
   lo = ap (λ (p : PartState). p.lo) done.part;

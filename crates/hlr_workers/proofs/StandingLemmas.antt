@@ -231,7 +231,8 @@ module _ (outs : List (Option HoldingState)) (jobs : List (List (ℕ × Job))) (
 
   -- the store is that of `g` now
   module _ (f g : List HoldingState → Store) (before : Store) (asked : List Asked) where
-    -- an event was answered at once; parts may have come or gone, and `back` makes ends as they were of ends as they are
+    -- an event was answered at once; parts may have come or gone, and `back` makes ends as they were of ends as they
+    -- are
     pub leads_told : (outs_now : List (Option HoldingState)) (jobs_now : List (List (ℕ × Job))) (back : List HoldingState → List HoldingState) → ((k : ℕ) → numbered_in k jobs_now ≡ numbered_in k jobs)
         → ((reply : ℕ → Reply) (ends : List HoldingState) → AreEnds reply outs_now jobs_now ends → AreEnds reply outs jobs (back ends)) → (event : Event) (r : Reply)
         → ((reply : ℕ → Reply) (ends : List HoldingState) → AreEnds reply outs_now jobs_now ends → IsStep event (f (back ends)) r (g ends))

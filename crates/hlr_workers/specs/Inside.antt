@@ -62,8 +62,8 @@ IsHomeAgain part before (Some answers) after =
 abbrev pub NoneOutOf : Parts → WorkersState → Type 0
 NoneOutOf parts workers = (q : ℕ) → parts.first ≤ q → q < parts.end → slice_index_or (outs_in workers.register.owners) q None ≡ None
 
--- parts came home: the rules are kept, and the engine stands where it did, with as many places for replies and as much room; the
--- register is the same but for its owners
+-- parts came home: the rules are kept, and the engine stands where it did, with as many places for replies and as much
+-- room; the register is the same but for its owners
 pub record AreBrought {Z : Type 0} (workers : WorkersState) (replies : Vec (ℕ × Reply) Z) (after : WorkersState) (filled : Vec (ℕ × Reply) Z) : Type 0 where
   pub kept : IsKept after filled.items
   pub stands : IsAsBefore (engaged workers replies.items) (engaged after filled.items)

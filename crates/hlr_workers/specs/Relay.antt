@@ -1,5 +1,6 @@
--- What goes through a worker's queue: the holding as it is lent, jobs of it, and that its thread is to end. One pass at most may push,
--- and knows what was sent; one at most may pop, and knows what was received; the rest waits in the queue.
+-- What goes through a worker's queue: the holding as it is lent, jobs of it, and that its thread is to end. One pass at
+-- most may push, and knows what was sent; one at most may pop, and knows what was received; the rest waits in the
+-- queue.
 use Rattle.std.specs.Prelude.{◌≡◌, ℕ, ◌≤◌, Bool, true, List, [], ◌∷◌, ◌++◌, length, map, ⊤}
 use Rattle.std.specs.List.{AllByRecursion}
 use mathlib.Core.Option.{some}

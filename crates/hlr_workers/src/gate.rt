@@ -4,7 +4,7 @@
 /// up. A gate that waits for the thread which submits stands for ever where that one waits for a place in the part's
 /// queue, or for the part to come home.
 pub trait Gate: Sync + Send + Drop {
-    /// Runs before the job with a number, of a part.
+    /// Runs before the job `seq` of a part.
     fn before(&self, part: u8, seq: u64);
 
     /// Runs after it.

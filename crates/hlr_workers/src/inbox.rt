@@ -14,8 +14,8 @@ use std::sync::{Arc, Wait};
 /// How often a queue that is empty, or full, is looked at before who waits for it sleeps.
 pub(crate) const LOOKS: u32 = 1_000;
 
-/// A worker's queue, the count of pushes that wakes the worker, and the count of pops of all workers' queues that wakes who
-/// pushes.
+/// A worker's queue, the count of pushes that wakes the worker, and the count of pops of all workers' queues that wakes
+/// who pushes.
 #[derive(Drop)]
 pub(crate) struct Inbox {
     pub(crate) queue: Queue,
@@ -65,8 +65,8 @@ impl Inbox {
         }
     }
 
-    /// Puts a message in, once there is a place, and wakes the worker if it sleeps: it spins for a while, then yields, and
-    /// then sleeps. It may wait.
+    /// Puts a message in, once there is a place, and wakes the worker if it sleeps: it spins for a while, then yields,
+    /// and then sleeps. It may wait.
     pub(crate) fn push<R: Wait>(&self, rt: &R, pass: &mut QueuePass, mut message: Message)
         requires pass { IsPassOf self.now.queue pass.old }
         requires sends { view pass.old ≡ log true false (view pass.old).sent [] }

@@ -94,8 +94,9 @@ impl Model for Worker {
 }
 
 impl Idle {
-    /// Makes the queue and what the thread shares, and then starts the thread, which writes its replies into the list and
-    /// tells each pop to the count. `Memory` where a growth was refused: no start was tried then. `Thread` where the start was refused.
+    /// Makes the queue and what the thread shares, and then starts the thread, which writes its replies into the list
+    /// and tells each pop to the count. `Memory` where a growth was refused: no start was tried then. `Thread` where
+    /// the start was refused.
     pub fn start<G: Gate + 'static, R: Threads + Wait + Copy + Send + Sync + 'static>(
         rt: &R,
         alloc: Global,
@@ -300,8 +301,8 @@ impl Worker {
         self.held.len()
     }
 
-    /// Sends a numbered job, as a task, of whose part the holding is: the first one is pushed at once, later ones are held until
-    /// a message is full. It may wait.
+    /// Sends a numbered job, as a task, of whose part the holding is: the first one is pushed at once, later ones are
+    /// held until a message is full. It may wait.
     pub fn send<R: Wait>(&mut self, rt: &R, number: u64, task: Task)
         requires room { length self.old.jobs < MOST_PENDING }
         requires within { IsWithinJob self.old.lent (job_of task) }
@@ -343,8 +344,8 @@ impl Worker {
         self.inbox.push(rt, &mut self.pass, Message::Stop);
     }
 
-    /// Ends the worker, once it was told to stop: the holding, and the replies to all its jobs, in the list that it had.
-    /// What it has left undone is done here. It may wait.
+    /// Ends the worker, once it was told to stop: the holding, and the replies to all its jobs, in the list that it
+    /// had. What it has left undone is done here. It may wait.
     pub fn join<G: Gate, R: Threads + Wait>(
         self,
         rt: &R,

@@ -84,8 +84,8 @@ fn put_worker(by_part: &mut ArrayVec<Option<Worker>, 16>, part: u8, worker: Work
     by_part.as_mut_slice()[usize::from(part)] = Some(worker);
 }
 
-/// A list for the replies of a worker: one that another worker has had, or a new one. `Memory` where the growth for that
-/// was refused.
+/// A list for the replies of a worker: one that another worker has had, or a new one. `Memory` where the growth for
+/// that was refused.
 fn list_for(
     lists: &mut ArrayVec<Option<EmptyList>, 16>,
     alloc: Global,
@@ -101,7 +101,8 @@ fn list_for(
     Ok(EmptyList { list })
 }
 
-/// The count of pops for a worker: that which the others have, or a new one. `Memory` where the growth for it was refused.
+/// The count of pops for a worker: that which the others have, or a new one. `Memory` where the growth for it was
+/// refused.
 fn pops_for(
     pops: &mut Option<Arc<EventCount, Global>>,
     alloc: Global,
@@ -234,8 +235,8 @@ fn must_offer(by_part: &ArrayVec<Option<Worker>, 16>, part: usize, most: usize) 
     count_held(by_part, part) > most && do_others_hold(by_part, part)
 }
 
-/// Pushes what all workers hold, where there is a place, and sleeps if that wasn't enough: a pop after this try ends the
-/// sleep, or keeps it from beginning. It may wait.
+/// Pushes what all workers hold, where there is a place, and sleeps if that wasn't enough: a pop after this try ends
+/// the sleep, or keeps it from beginning. It may wait.
 fn offer_or_sleep<R: Wait>(
     rt: &R,
     by_part: &mut ArrayVec<Option<Worker>, 16>,
@@ -253,9 +254,9 @@ fn offer_or_sleep<R: Wait>(
     }
 }
 
-/// Pushes what all workers hold, where there is a place, until that of a part holds so many jobs at most, or no other one
-/// holds any: so nobody lacks a job that another part's gate may wait for, while the caller waits for a place. It spins for
-/// a while, then yields, and then sleeps. It may wait.
+/// Pushes what all workers hold, where there is a place, until that of a part holds so many jobs at most, or no other
+/// one holds any: so nobody lacks a job that another part's gate may wait for, while the caller waits for a place. It
+/// spins for a while, then yields, and then sleeps. It may wait.
 #[inline(never)]
 fn offer_until<R: Wait>(
     rt: &R,
@@ -285,8 +286,8 @@ fn offer_until<R: Wait>(
     unreachable!()
 }
 
-/// Before one job more is sent to the worker of a part: where it holds a whole message, pushes what all workers hold, as
-/// above. It may wait.
+/// Before one job more is sent to the worker of a part: where it holds a whole message, pushes what all workers hold,
+/// as above. It may wait.
 fn offer_before<R: Wait>(
     rt: &R,
     by_part: &mut ArrayVec<Option<Worker>, 16>,
@@ -454,7 +455,8 @@ impl Workers {
         offer_all(&mut self.by_part);
     }
 
-    /// Pushes all jobs that are held: first where there is a place, and then wherever there is one in time. It may wait.
+    /// Pushes all jobs that are held: first where there is a place, and then wherever there is one in time. It may
+    /// wait.
     pub(crate) fn hand_on<R: Wait>(&mut self, rt: &R)
         ensures { self.new ≡ self.old }
     {

@@ -34,7 +34,7 @@ pub use Rattle.tatp_rows.specs.declared.refusal.Refusal.{Refusal}
 pub use Rattle.view_board.proofs.BackLemmas.{wide_back}
 pub use Rattle.view_board.proofs.OwnLemmas.{net_alone}
 pub use Rattle.view_board.proofs.PostedLemmas.{raises_once}
-pub use Rattle.view_board.specs.Desks.{Station, with_view}
+pub use Rattle.view_board.specs.Desks.{DeskState, with_view}
 pub use Rattle.view_board.specs.Nets.{NetMoves, net_of}
 pub use Rattle.view_board.specs.Views.{IsLeastSlot, IsWide, OwnsAlone, posted, taken_back}
 pub use Rattle.view_board.specs.Words.{is_worn, slot_net, word_of}

@@ -1,5 +1,5 @@
 -- A holding that starts with no row and is filled, and one whose rows go to another one.
-use Rattle.holding.proofs.Common.{◌≡◌, ℕ, ◌<◌, refl, sym, arith, List, map, get_or, ◌∙◌, ℤ, pos, ◌+ℤ◌, Box, with_value, Global, range_with_len, ints, get_or-map-range_with_len, Side, empty_book, PartState, IsPart, CELLS, Station, with_view, net_of, IsLeastSlot, OwnsAlone, taken_back, View, wide_back, delta_at, HoldingState, PieceState, IsHolding, IsPiece, count_of, IsGiven}
+use Rattle.holding.proofs.Common.{◌≡◌, ℕ, ◌<◌, refl, sym, arith, List, map, get_or, ◌∙◌, ℤ, pos, ◌+ℤ◌, Box, with_value, Global, range_with_len, ints, get_or-map-range_with_len, Side, empty_book, PartState, IsPart, CELLS, DeskState, with_view, net_of, IsLeastSlot, OwnsAlone, taken_back, View, wide_back, delta_at, HoldingState, PieceState, IsHolding, IsPiece, count_of, IsGiven}
 use Rattle.holding.proofs.HeldLemmas.{empty_cell}
 use Rattle.holding.proofs.MovedLemmas.{counts_of}
 
@@ -16,7 +16,7 @@ none_pending holding is empty idle c below =
     omega (arith, ints)
 
 -- a holding with no row is filled with those of a piece, all of which is pending
-pub filled : (old part : PartState) (pending pending' : List ℤ) (counts : List ℕ) (desk : Station) (slot : ℕ) → IsHolding (record { part = old; pending = pending; desk = desk; slot = slot })
+pub filled : (old part : PartState) (pending pending' : List ℤ) (counts : List ℕ) (desk : DeskState) (slot : ℕ) → IsHolding (record { part = old; pending = pending; desk = desk; slot = slot })
     → IsPiece (record { part = part; pending = map pos counts }) → IsIdle desk.view → ((c : ℕ) → c < CELLS → delta_at pending c ≡ pos 0)
     → ((c : ℕ) → c < CELLS → delta_at pending' c ≡ delta_at pending c +ℤ pos (get_or counts c 0))
     → IsHolding (record { part = part; pending = pending'; desk = desk; slot = slot })
@@ -56,7 +56,7 @@ pub alone_least : (view : View) (slot other : ℕ) → IsLeastSlot view slot →
 alone_least view slot other least alone = (least.0, λ s own. alone.1 s own ∙ sym (alone.1 slot least.0))
 
 -- a holding whose rows are gone, and which took back all that was published
-pub emptied : (part empty : PartState) (pending none : List ℤ) (desk desk' : Station) (slot : ℕ) → IsHolding (record { part = part; pending = pending; desk = desk; slot = slot })
+pub emptied : (part empty : PartState) (pending none : List ℤ) (desk desk' : DeskState) (slot : ℕ) → IsHolding (record { part = part; pending = pending; desk = desk; slot = slot })
     → IsPart empty → empty.book ≡ empty_book → desk' ≡ with_view desk (taken_back desk.view slot) → IsIdle desk'.view → ((c : ℕ) → c < CELLS → delta_at none c ≡ pos 0)
     → IsHolding (record { part = empty; pending = none; desk = desk'; slot = slot })
 emptied part empty pending none desk desk' slot is rules book back idle nothing = record {

@@ -1,5 +1,5 @@
 -- The local law, from the opening of a holding through its actions and postings.
-use Rattle.holding.proofs.Common.{◌≡◌, ℕ, ◌+◌, ◌-◌, ◌^◌, ◌<◌, ◌≤◌, ◌==◌, refl, arith, List, length, set, get_or, subst, ◌∙◌, inl, inr, nat_lt, true, false, ℤ, pos, neg_ℤ, ◌-ℤ◌, ◌≤ℤ◌, cases_lt, nat_tests, ints, get_or-set_same, get_or-set_other, get_or_past, length-set, by_test, empty_book, IsChange, cell, PartState, IsPart, few_cells, CELLS, FIRST_AREA, FIRST_ZONE, Station, net_of, NetMoves, IsLeastSlot, IsWide, OwnsAlone, posted, slot_net, word_of, net_alone, View, delta_at, NotesFit, HoldingState, IsHolding, HasSmallNets, count_of}
+use Rattle.holding.proofs.Common.{◌≡◌, ℕ, ◌+◌, ◌-◌, ◌^◌, ◌<◌, ◌≤◌, ◌==◌, refl, arith, List, length, set, get_or, subst, ◌∙◌, inl, inr, nat_lt, true, false, ℤ, pos, neg_ℤ, ◌-ℤ◌, ◌≤ℤ◌, cases_lt, nat_tests, ints, get_or-set_same, get_or-set_other, get_or_past, length-set, by_test, empty_book, IsChange, cell, PartState, IsPart, few_cells, CELLS, FIRST_AREA, FIRST_ZONE, DeskState, net_of, NetMoves, IsLeastSlot, IsWide, OwnsAlone, posted, slot_net, word_of, net_alone, View, delta_at, NotesFit, HoldingState, IsHolding, HasSmallNets, count_of}
 use Rattle.tatp_actions.specs.Cell.{active_forwardings, in_area, in_zone}
 
 -- an empty book has no count
@@ -25,7 +25,7 @@ pub few : (part : PartState) → IsPart part → (c : ℕ) → count_of part c �
 few part rules c = few_cells part.lo part.hi part.width c part.book rules.rows rules.range.2
 
 -- a holding opens: what its desk has not published of its counts is pending
-pub opened : (part : PartState) (counts : List ℕ) (deltas pending : List ℤ) (desk : Station) (slot : ℕ) → IsPart part → IsLeastSlot desk.view slot → HasSmallNets desk.view → IsWide desk.view
+pub opened : (part : PartState) (counts : List ℕ) (deltas pending : List ℤ) (desk : DeskState) (slot : ℕ) → IsPart part → IsLeastSlot desk.view slot → HasSmallNets desk.view → IsWide desk.view
     → ((c : ℕ) → c < CELLS → get_or counts c 0 ≡ count_of part c) → ((c : ℕ) → c < CELLS → delta_at deltas c ≡ pos (get_or counts c 0) -ℤ net_of desk.view c) → pending ≡ deltas
     → IsHolding (record { part = part; pending = pending; desk = desk; slot = slot })
 opened part counts deltas pending desk slot rules least small wide are told is = record {
@@ -71,7 +71,7 @@ pub wide_posted : (view : View) (slot c : ℕ) (amount : ℤ) → IsWide view �
 wide_posted view slot c amount wide = record { slots = wide.slots; numbers = length-set view.numbers (word_of slot c amount) _ ∙ wide.numbers; seen = wide.seen }
 
 -- what was pending of a cell is published
-module _ (part : PartState) (pending pending' : List ℤ) (desk desk' : Station) (slot c : ℕ) (amount : ℤ) (is : IsHolding (record { part = part; pending = pending; desk = desk; slot = slot }))
+module _ (part : PartState) (pending pending' : List ℤ) (desk desk' : DeskState) (slot c : ℕ) (amount : ℤ) (is : IsHolding (record { part = part; pending = pending; desk = desk; slot = slot }))
     (owned : desk'.view.owned ≡ desk.view.owned) (whole : amount ≡ delta_at pending c) (moves : NetMoves desk.view desk'.view c amount) (none : pending' ≡ set pending c (pos 0)) (wide : IsWide desk'.view) where
   here : (k : ℕ) → k < CELLS → (k == c) ≡ true → net_of desk'.view k ≡ pos (count_of part k)
   here k below e =

@@ -1,5 +1,5 @@
 -- A part that is cut in two, and two that become one: their counts add up, and the local law is kept.
-use Rattle.holding.proofs.Common.{◌≡◌, ℕ, ◌+◌, ◌<◌, ◌==◌, arith, List, get_or, map, ◌∙◌, ap, inl, inr, false, ℤ, pos, ◌-ℤ◌, get_or-map, nat_tests, ints, Side, Low, High, by_test, Book, IsRowsOf, cell, given_part, kept_part, melded, Touch, join_books, PartState, IsPart, CELLS, cell_cut, cell_joined, Station, delta_at, SumsFit, DifferencesFit, HoldingState, IsHolding, IsPiece, count_of, IsPendingWith}
+use Rattle.holding.proofs.Common.{◌≡◌, ℕ, ◌+◌, ◌<◌, ◌==◌, arith, List, get_or, map, ◌∙◌, ap, inl, inr, false, ℤ, pos, ◌-ℤ◌, get_or-map, nat_tests, ints, Side, Low, High, by_test, Book, IsRowsOf, cell, given_part, kept_part, melded, Touch, join_books, PartState, IsPart, CELLS, cell_cut, cell_joined, DeskState, delta_at, SumsFit, DifferencesFit, HoldingState, IsHolding, IsPiece, count_of, IsPendingWith}
 use Rattle.holding.proofs.HeldLemmas.{few, pending_small}
 
 -- the counts of a part's rows
@@ -39,7 +39,7 @@ divided High at part given kept rules is_given is_kept c =
     (omega arith)
 
 -- what is left of a holding keeps its rules
-pub left : (part given kept : PartState) (pending pending' : List ℤ) (counts : List ℕ) (desk : Station) (slot : ℕ) → IsHolding (record { part = part; pending = pending; desk = desk; slot = slot })
+pub left : (part given kept : PartState) (pending pending' : List ℤ) (counts : List ℕ) (desk : DeskState) (slot : ℕ) → IsHolding (record { part = part; pending = pending; desk = desk; slot = slot })
     → IsPart kept → AreCountsOf given counts → ((c : ℕ) → count_of part c ≡ count_of given c + count_of kept c)
     → ((c : ℕ) → c < CELLS → delta_at pending' c ≡ delta_at pending c -ℤ pos (get_or counts c 0))
     → IsHolding (record { part = kept; pending = pending'; desk = desk; slot = slot })
@@ -74,7 +74,7 @@ joined part other whole rules rules' touch same is c = by_test (part.hi == other
     meets_low (inr second) e = second
 
 -- a holding with the rows and the counts of another part keeps its rules
-pub grown : (part other whole : PartState) (pending pending' : List ℤ) (desk : Station) (slot : ℕ) → IsHolding (record { part = part; pending = pending; desk = desk; slot = slot })
+pub grown : (part other whole : PartState) (pending pending' : List ℤ) (desk : DeskState) (slot : ℕ) → IsHolding (record { part = part; pending = pending; desk = desk; slot = slot })
     → IsPart whole → ((c : ℕ) → count_of whole c ≡ count_of part c + count_of other c) → IsPendingWith other pending pending'
     → IsHolding (record { part = whole; pending = pending'; desk = desk; slot = slot })
 grown part other whole pending pending' desk slot is rules both more = record {

@@ -3,7 +3,7 @@ use Rattle.std.specs.Prelude.{◌≡◌, ℕ, ◌<◌, ◌^◌, List, ℤ, pos, 
 use Rattle.tatp_actions.specs.Cell.{cell}
 use Rattle.tatp_actions.specs.Part.{PartState, IsPart}
 use Rattle.tatp_actions.specs.declared.cells.TheConstants.{CELLS}
-use Rattle.view_board.specs.Desks.{Station}
+use Rattle.view_board.specs.Desks.{DeskState}
 use Rattle.view_board.specs.Nets.{net_of}
 use Rattle.view_board.specs.Views.{IsLeastSlot, IsWide}
 use Rattle.view_board.specs.declared.rule.View.{View}
@@ -13,7 +13,7 @@ use Rattle.view_delta.specs.Pending.{delta_at}
 pub record HoldingState : Type 0 where
   pub part : PartState
   pub pending : List ℤ
-  pub desk : Station
+  pub desk : DeskState
   pub slot : ℕ
 
 -- a loose part, of which nothing is posted

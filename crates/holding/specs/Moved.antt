@@ -5,7 +5,7 @@ use Rattle.tatp_actions.specs.Part.{PartState}
 use Rattle.tatp_actions.specs.declared.cells.TheConstants.{CELLS}
 use Rattle.part_table.specs.declared.region.Side.{Side}
 use Rattle.part_table.specs.declared.region.Side.TheVariants.{High}
-use Rattle.view_board.specs.Desks.{Station, with_view}
+use Rattle.view_board.specs.Desks.{DeskState, with_view}
 use Rattle.view_board.specs.Nets.{net_of}
 use Rattle.view_board.specs.Views.{OwnsAlone, taken_back}
 use Rattle.view_board.specs.declared.rule.View.{View}
@@ -55,14 +55,14 @@ pub record IsBlankDesk (view : View) : Type 0 where
 
 -- a holding that was divided: it gave away what is from a subscriber on, all of which is pending with the new holding,
 -- whose desk this is
-pub record IsHoldingDivided (at : ℕ) (before : HoldingState) (desk : Station) (new after : HoldingState) : Type 0 where
+pub record IsHoldingDivided (at : ℕ) (before : HoldingState) (desk : DeskState) (new after : HoldingState) : Type 0 where
   pub given : IsGiven High at before (as_piece new) after
   pub counts : IsPiece (as_piece new)
   pub own : new.desk ≡ desk
 
 -- a holding that was dissolved: the one in front of it took its rows, whose counts are pending there, and the desk that
 -- is left has taken back all that it had published
-pub record IsMerged (before gone : HoldingState) (desk : Station) (after : HoldingState) : Type 0 where
+pub record IsMerged (before gone : HoldingState) (desk : DeskState) (after : HoldingState) : Type 0 where
   pub counts : List ℤ
   pub counted : IsPiece (record { part = gone.part; pending = counts })
   pub taken : IsTaken before (record { part = gone.part; pending = counts }) after

@@ -21,8 +21,8 @@ use view_delta::Pending;
 /// A part with what is pending of each cell, and the desk of its owner. What the desk has published of a cell and what
 /// is pending of it are together the count over the part's rows.
 ///
-/// The desk comes out as the holding is dissolved, and else never. So a holding that is dropped takes its slot along, and
-/// since a register is made of desks that have each slot once, none can be made of the others then.
+/// The desk comes out as the holding is dissolved, and else never. So a holding that is dropped takes its slot along,
+/// and since a register is made of desks that have each slot once, none can be made of the others then.
 #[derive(Drop)]
 pub struct Holding<R: Rows = Trees> {
     pub(crate) part: Part<R>,
@@ -132,9 +132,9 @@ impl<R: Rows> Holding<R> {
     }
 
     /// Posts what is pending to the words of the desk's least slot, cells ascending, each whole and in one step, until
-    /// `limit` are posted or none is left; tells how many were, at most `CELLS`, and so in how many steps the desk raised words.
-    /// `Worn` stops it at a cell whose word would pass its limit: the cells before stay posted, and that cell stays
-    /// pending.
+    /// `limit` are posted or none is left; tells how many were, at most `CELLS`, and so in how many steps the desk
+    /// raised words. `Worn` stops it at a cell whose word would pass its limit: the cells before stay posted, and that
+    /// cell stays pending.
     pub fn post(&mut self, board: &Board, limit: u64) -> Result<u8, Refusal>
         requires { self.old.desk.board ≡ board.now }
         ensures posted { (result, self.new.desk.view) ≡ post (count_of self.old.part) self.old.slot limit self.old.desk.view }
@@ -195,24 +195,21 @@ impl Holding {
 
     /// Gives the first subscriber of the range, 1..=16,777,216.
     pub fn lo(&self) -> u32
-        ensures value { result ≡ self.now.part.lo }
-        ensures rules { IsHolding self.now }
+        ensures { result ≡ self.now.part.lo }
     {
         self.part.lo()
     }
 
     /// Gives the end of the range: one past its last subscriber, at most 16,777,217.
     pub fn hi(&self) -> u32
-        ensures value { result ≡ self.now.part.hi }
-        ensures rules { IsHolding self.now }
+        ensures { result ≡ self.now.part.hi }
     {
         self.part.hi()
     }
 
     /// Gives the width of the zones, 1..=524,288.
     pub fn width(&self) -> u32
-        ensures value { result ≡ self.now.part.width }
-        ensures rules { IsHolding self.now }
+        ensures { result ≡ self.now.part.width }
     {
         self.part.width()
     }
@@ -220,16 +217,14 @@ impl Holding {
     /// Gives what is pending of a cell below `CELLS`.
     pub fn pending(&self, cell: u8) -> i64
         requires { cell < CELLS }
-        ensures value { result ≡ delta_at self.now.pending cell }
-        ensures rules { IsHolding self.now }
+        ensures { result ≡ delta_at self.now.pending cell }
     {
         self.pending.get(cell)
     }
 
     /// Tells whether the slot is the desk's; one past the last is nobody's.
     pub fn owns(&self, slot: u8) -> bool
-        ensures value { IsTrue result ↔ Owns self.now.desk.view slot }
-        ensures rules { IsHolding self.now }
+        ensures { IsTrue result ↔ Owns self.now.desk.view slot }
     {
         self.desk.owns(slot)
     }
@@ -238,16 +233,14 @@ impl Holding {
     #[inline(always)]
     pub fn net(&self, cell: u8) -> i128
         requires { cell < CELLS }
-        ensures value { result ≡ net_of self.now.desk.view cell }
-        ensures rules { IsHolding self.now }
+        ensures { result ≡ net_of self.now.desk.view cell }
     {
         self.desk.net(cell)
     }
 
     /// Gives what the desk has published of each cell.
     pub fn nets(&self) -> [i128; CELLS as usize]
-        ensures value { (c : ℕ) → c < CELLS → slice_index_or result c (pos 0) ≡ net_of self.now.desk.view c }
-        ensures rules { IsHolding self.now }
+        ensures { (c : ℕ) → c < CELLS → slice_index_or result c (pos 0) ≡ net_of self.now.desk.view c }
     {
         self.desk.nets()
     }
@@ -257,24 +250,21 @@ impl Holding {
     pub fn add_nets(&self, sums: &mut [i64; CELLS as usize])
         requires alone { (slot : ℕ) × OwnsAlone self.now.desk.view slot }
         requires sums { (c : ℕ) → c < CELLS → (neg_ℤ (pos (2 ^ 60)) ≤ℤ slice_index_or sums.old c (pos 0)) × (slice_index_or sums.old c (pos 0) ≤ℤ pos (2 ^ 60)) }
-        ensures added { (c : ℕ) → c < CELLS → slice_index_or sums.new c (pos 0) ≡ slice_index_or sums.old c (pos 0) +ℤ net_of self.now.desk.view c }
-        ensures rules { IsHolding self.now }
+        ensures { (c : ℕ) → c < CELLS → slice_index_or sums.new c (pos 0) ≡ slice_index_or sums.old c (pos 0) +ℤ net_of self.now.desk.view c }
     {
         self.desk.add_slot_nets(self.slot, sums);
     }
 
     /// Counts each cell by a walk over all rows.
     pub fn recount(&self) -> Cells
-        ensures value { (c : ℕ) → c < CELLS → slice_index result c ≡ count_of self.now.part c }
-        ensures rules { IsHolding self.now }
+        ensures { (c : ℕ) → c < CELLS → slice_index result c ≡ count_of self.now.part c }
     {
         self.part.recount()
     }
 
     /// Finds the first Subscriber row of the part from a subscriber on.
     pub fn first_sub_from(&self, s_id: u64) -> Option<&Subscriber>
-        ensures value { option_copied result ≡ first_subscriber s_id self.now.part.book.subscribers }
-        ensures rules { IsHolding self.now }
+        ensures { option_copied result ≡ first_subscriber s_id self.now.part.book.subscribers }
     {
         self.part.first_sub_from(s_id)
     }

@@ -18,8 +18,8 @@ impl Holding {
         self.part.copy_subscribers(s_ids, rows);
     }
 
-    /// Puts up to 16 Access_Info rows into an empty list, each asked by its s_id and ai_type, in the order in which they
-    /// are asked, `None` where there is none. The rows are looked for side by side.
+    /// Puts up to 16 Access_Info rows into an empty list, each asked by its s_id and ai_type, in the order in which
+    /// they are asked, `None` where there is none. The rows are looked for side by side.
     pub fn copy_access(&self, asked: &[(u32, u8)], rows: &mut ArrayVec<Option<Access>, 16>)
         requires few { length asked.now ≤ 16 }
         requires empty { rows.old.items ≡ [] }
@@ -29,8 +29,8 @@ impl Holding {
     }
 
     /// Puts the numbers to which up to 16 calls are forwarded into an empty list, as `destinations` tells them, of each
-    /// call by its s_id, sf_type, start_time and end_time, in the order in which they are asked. The rows are looked for
-    /// side by side.
+    /// call by its s_id, sf_type, start_time and end_time, in the order in which they are asked. The rows are looked
+    /// for side by side.
     pub fn copy_destinations(
         &self,
         asked: &[(u32, u8, u8, u8)],

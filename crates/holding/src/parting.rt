@@ -112,6 +112,8 @@ impl Holding {
         ensures before { IsHolding self.old }
         ensures after { IsHolding self.new }
     {
+        self.rules();
+        other.rules();
         if self.hi() != other.lo() {
             return Err(Back {
                 why: Refusal::NotAdjacent,
@@ -208,6 +210,8 @@ impl Holding {
     fn pending_with(&self, other: &Holding) -> Pending
         ensures { IsPendingWith other.now.part self.now.pending result }
     {
+        self.rules();
+        other.rules();
         let nets = other.nets();
         let mut deltas = [0; CELLS as usize];
         for cell in 0..CELLS {

@@ -61,26 +61,31 @@ impl Piece {
         Ok(Box::new(alloc, Piece::blank(alloc))?)
     }
 
+    /// Tells the prover that the piece keeps its rules. It does nothing.
+    #[inline(always)]
+    pub fn rules(&self)
+        ensures { IsPiece self.now }
+    {
+        let _ = &self.part;
+    }
+
     /// Gives the first subscriber of the range, 1..=16,777,216.
     pub fn lo(&self) -> u32
-        ensures value { result ≡ self.now.part.lo }
-        ensures rules { IsPiece self.now }
+        ensures { result ≡ self.now.part.lo }
     {
         self.part.lo()
     }
 
     /// Gives the end of the range: one past its last subscriber, at most 16,777,217.
     pub fn hi(&self) -> u32
-        ensures value { result ≡ self.now.part.hi }
-        ensures rules { IsPiece self.now }
+        ensures { result ≡ self.now.part.hi }
     {
         self.part.hi()
     }
 
     /// Gives the width of the zones, 1..=524,288.
     pub fn width(&self) -> u32
-        ensures value { result ≡ self.now.part.width }
-        ensures rules { IsPiece self.now }
+        ensures { result ≡ self.now.part.width }
     {
         self.part.width()
     }
@@ -88,24 +93,21 @@ impl Piece {
     /// Gives what is pending of a cell below `CELLS`: its count.
     pub fn pending(&self, cell: u8) -> i64
         requires { cell < CELLS }
-        ensures value { result ≡ delta_at self.now.pending cell }
-        ensures rules { IsPiece self.now }
+        ensures { result ≡ delta_at self.now.pending cell }
     {
         delta_of(self.pending.get(cell))
     }
 
     /// Counts each cell by a walk over all rows.
     pub fn recount(&self) -> Cells
-        ensures value { (c : ℕ) → c < CELLS → slice_index result c ≡ count_of self.now.part c }
-        ensures rules { IsPiece self.now }
+        ensures { (c : ℕ) → c < CELLS → slice_index result c ≡ count_of self.now.part c }
     {
         self.part.recount()
     }
 
     /// Finds the first Subscriber row of the piece from a subscriber on.
     pub fn first_sub_from(&self, s_id: u64) -> Option<&Subscriber>
-        ensures value { option_copied result ≡ first_subscriber s_id self.now.part.book.subscribers }
-        ensures rules { IsPiece self.now }
+        ensures { option_copied result ≡ first_subscriber s_id self.now.part.book.subscribers }
     {
         self.part.first_sub_from(s_id)
     }

@@ -25,7 +25,7 @@ pub use Rattle.tatp_rows.proofs.OrderedLemmas.{each-weaker, filter_all, filter_n
 pub use Rattle.tatp_rows.proofs.SpanLemmas.{from-weaker}
 pub use Rattle.tatp_rows.specs.Ordered.{IsOrderedBy}
 pub use Rattle.mr_cut.specs.Bounds.{join_steps}
-pub use Rattle.mr_cut.specs.Cuts.{AreApart, IsCut, IsDivided, IsSideRoot, rows_below, rows_from}
+pub use Rattle.mr_cut.specs.Cuts.{AreApart, IsCut, IsDividedNode, IsSideRoot, rows_below, rows_from}
 pub use Rattle.mr_cut.specs.Joins.{FitUnderRoot, IsHeightOfBoth, IsLower, IsRootCount, IsRootOf}
 pub use Rattle.mr_cut.specs.SideJoins.{IsEvened, IsOneOf, IsRest, IsSideJoined, IsTurned, MaybeNode, beside, end_of, more_of, rows_with}
 pub use Rattle.mr_cut.specs.declared.side_joins.Side.{Side}

@@ -1,5 +1,5 @@
 -- A tree that is cut at a key.
-use Rattle.mr_cut.proofs.Common.{◌≡◌, ℕ, ◌+◌, ◌-◌, ◌*◌, ◌<◌, ◌≤◌, List, [], ◌∷◌, ◌++◌, length, take, drop, nat_lt, nat_le, true, false, sym, ap, subst, ◌∙◌, arith, append-nil, take_at, inl, inr, AllByRecursion, add-mul, le-mul_of_pos_right, mul-add, mul-le, cases_lt, lt-ltb, lt-leb, le-ltb, le-leb, filter-append, abs_diff, each-weaker, filter_all, filter_none, append_assoc, drop_all, drop_at, length-append, nil_from_length, IsOrderedBy, each-append, each-left, each-right, ordered-left, ordered-right, from-weaker, Leaf, Seen, key_of_pair, key_limit, KeysBelow, KeysFrom, AreEntries, IsChildPlace, NodeChild, NodeInner, children_of, rows_of, pairs_of, IsChild, IsLeaf, IsInner, seen_leaf, seen_inner, packed_some, entries_length, rows_of-append, cut_child, leaf_well, inner_well, IsRoot, IsRest, IsHeightOfBoth, rows_below, rows_from, IsSideRoot, IsDivided, IsCut}
+use Rattle.mr_cut.proofs.Common.{◌≡◌, ℕ, ◌+◌, ◌-◌, ◌*◌, ◌<◌, ◌≤◌, List, [], ◌∷◌, ◌++◌, length, take, drop, nat_lt, nat_le, true, false, sym, ap, subst, ◌∙◌, arith, append-nil, take_at, inl, inr, AllByRecursion, add-mul, le-mul_of_pos_right, mul-add, mul-le, cases_lt, lt-ltb, lt-leb, le-ltb, le-leb, filter-append, abs_diff, each-weaker, filter_all, filter_none, append_assoc, drop_all, drop_at, length-append, nil_from_length, IsOrderedBy, each-append, each-left, each-right, ordered-left, ordered-right, from-weaker, Leaf, Seen, key_of_pair, key_limit, KeysBelow, KeysFrom, AreEntries, IsChildPlace, NodeChild, NodeInner, children_of, rows_of, pairs_of, IsChild, IsLeaf, IsInner, seen_leaf, seen_inner, packed_some, entries_length, rows_of-append, cut_child, leaf_well, inner_well, IsRoot, IsRest, IsHeightOfBoth, rows_below, rows_from, IsSideRoot, IsDividedNode, IsCut}
 
 -- numbers up to a bound are no further apart
 near : (a b n : ℕ) → a ≤ n → b ≤ n → abs_diff a b ≤ n
@@ -57,8 +57,8 @@ module _ {V : Type 0} where
       } in
       (subst (IsSideRoot b.height) (sym e) whole, ap (λ s. s.rows) e)
 
-  -- an inner node parted round the child to which a key belongs
-  pub record IsSplitAt (key : ℕ) (b front behind : NodeInner V) (k : NodeChild V) : Type 0 where
+  -- an inner node cut around the child to which a key belongs
+  pub record IsCutAround (key : ℕ) (b front behind : NodeInner V) (k : NodeChild V) : Type 0 where
     pub first : IsRest front
     pub second : IsRest behind
     pub child : IsChild (b.height - 1) k
@@ -69,9 +69,9 @@ module _ {V : Type 0} where
     pub from : KeysFrom key (rows_of (children_of behind))
 
   rest_part : (b part : NodeInner V) → 0 < b.height → part.height ≡ b.height → AreEntries part.len part.leasts part.children → AllByRecursion (IsChild (b.height - 1)) (children_of part) → IsOrderedBy key_of_pair (rows_of (children_of part)) → KeysBelow key_limit (rows_of (children_of part)) → IsRest part
-  rest_part b part above_leaves height run children ordered keys = record {
+  rest_part b part above_leaves height are_entries children ordered keys = record {
     above_leaves = omega (arith, height, above_leaves);
-    entries = run;
+    entries = are_entries;
     children = subst (λ m. AllByRecursion (IsChild (m - 1)) (children_of part)) (sym height) children;
     ordered = ordered;
     keys = keys;
@@ -84,13 +84,13 @@ module _ {V : Type 0} where
       let cut = cut_child key i b some.0 inner at some.1 in
       (cut.below, from-weaker key_of_pair key (key + 1) (rows_of (drop (i + 1) (children_of b))) (omega arith) cut.above)
 
-  parted_of : (key i : ℕ) (b front behind : NodeInner V) (k : NodeChild V) → IsInner b → IsChildPlace key i b.len b.leasts → front.height ≡ b.height → behind.height ≡ b.height → AreEntries front.len front.leasts front.children → AreEntries behind.len behind.leasts behind.children → front.len ≡ i → children_of b ≡ children_of front ++ (k ∷ children_of behind) → IsSplitAt key b front behind k
-  parted_of key i b front behind k inner at front_height behind_height front_run behind_run len list =
+  cut_around_of : (key i : ℕ) (b front behind : NodeInner V) (k : NodeChild V) → IsInner b → IsChildPlace key i b.len b.leasts → front.height ≡ b.height → behind.height ≡ b.height → AreEntries front.len front.leasts front.children → AreEntries behind.len behind.leasts behind.children → front.len ≡ i → children_of b ≡ children_of front ++ (k ∷ children_of behind) → IsCutAround key b front behind k
+  cut_around_of key i b front behind k inner at front_height behind_height front_entries behind_entries len list =
       let h = b.height - 1 in
       let P = IsChild h in
       let f = children_of front in
       let r = children_of behind in
-      let long : length f ≡ i = entries_length front.len front.leasts front.children front_run ∙ len in
+      let long : length f ≡ i = entries_length front.len front.leasts front.children front_entries ∙ len in
       let all = subst (AllByRecursion P) list inner.children in
       let back = each-right P f (k ∷ r) all in
       let rows : rows_of (children_of b) ≡ rows_of f ++ (k.1.node.value.rows ++ rows_of r) = ap rows_of list ∙ rows_of-append f (k ∷ r) in
@@ -102,35 +102,35 @@ module _ {V : Type 0} where
       let backs : drop (i + 1) (children_of b) ≡ r = ap (drop (i + 1)) (list ∙ sym (append_assoc f (k ∷ []) r)) ∙ drop_at (f ++ (k ∷ [])) r (i + 1) (omega (arith, length-append f (k ∷ []), long)) in
       let both : length f + (1 + length r) ≡ b.len = omega (arith, ap length list, length-append f (k ∷ r), entries_length b.len b.leasts b.children inner.entries) in
       record {
-        first = rest_part b front inner.above_leaves front_height front_run (each-left P f (k ∷ r) all) (ordered-left key_of_pair (rows_of f) (k.1.node.value.rows ++ rows_of r) o) (each-left Q (rows_of f) (k.1.node.value.rows ++ rows_of r) small);
-        second = rest_part b behind inner.above_leaves behind_height behind_run back.1 (ordered-right key_of_pair k.1.node.value.rows (rows_of r) (ordered-right key_of_pair (rows_of f) (k.1.node.value.rows ++ rows_of r) o)) (each-right Q k.1.node.value.rows (rows_of r) (each-right Q (rows_of f) (k.1.node.value.rows ++ rows_of r) small));
+        first = rest_part b front inner.above_leaves front_height front_entries (each-left P f (k ∷ r) all) (ordered-left key_of_pair (rows_of f) (k.1.node.value.rows ++ rows_of r) o) (each-left Q (rows_of f) (k.1.node.value.rows ++ rows_of r) small);
+        second = rest_part b behind inner.above_leaves behind_height behind_entries back.1 (ordered-right key_of_pair k.1.node.value.rows (rows_of r) (ordered-right key_of_pair (rows_of f) (k.1.node.value.rows ++ rows_of r) o)) (each-right Q k.1.node.value.rows (rows_of r) (each-right Q (rows_of f) (k.1.node.value.rows ++ rows_of r) small));
         child = back.0;
-        first_room = omega (arith, both, inner.entries.fits, entries_length front.len front.leasts front.children front_run);
-        second_room = omega (arith, both, inner.entries.fits, entries_length behind.len behind.leasts behind.children behind_run);
+        first_room = omega (arith, both, inner.entries.fits, entries_length front.len front.leasts front.children front_entries);
+        second_room = omega (arith, both, inner.entries.fits, entries_length behind.len behind.leasts behind.children behind_entries);
         rows = sym rows;
         below = subst (λ l. KeysBelow key (rows_of l)) fronts sides.0;
         from = subst (λ l. KeysFrom key (rows_of l)) backs sides.1;
       }
 
   -- the same from the cut behind that child and its removal
-  pub parted_at : (key i : ℕ) (b mid front behind : NodeInner V) (k : NodeChild V) → IsInner b → IsChildPlace key i b.len b.leasts → children_of mid ++ children_of behind ≡ children_of b → mid.len ≡ i + 1 → mid.height ≡ b.height → behind.height ≡ b.height → AreEntries mid.len mid.leasts mid.children → AreEntries behind.len behind.leasts behind.children
-      → front.height ≡ mid.height → front.len + 1 ≡ mid.len → AreEntries front.len front.leasts front.children → children_of front ≡ take i (children_of mid) ++ drop (i + 1) (children_of mid) → children_of mid ≡ take i (children_of mid) ++ (k ∷ drop (i + 1) (children_of mid)) → IsSplitAt key b front behind k
-  parted_at key i b mid front behind k inner at list mid_len mid_height behind_height mid_run behind_run height len run rest split =
-      let none : drop (i + 1) (children_of mid) ≡ [] = drop_all (i + 1) (children_of mid) (omega (arith, entries_length mid.len mid.leasts mid.children mid_run, mid_len)) in
+  pub cut_around : (key i : ℕ) (b mid front behind : NodeInner V) (k : NodeChild V) → IsInner b → IsChildPlace key i b.len b.leasts → children_of mid ++ children_of behind ≡ children_of b → mid.len ≡ i + 1 → mid.height ≡ b.height → behind.height ≡ b.height → AreEntries mid.len mid.leasts mid.children → AreEntries behind.len behind.leasts behind.children
+      → front.height ≡ mid.height → front.len + 1 ≡ mid.len → AreEntries front.len front.leasts front.children → children_of front ≡ take i (children_of mid) ++ drop (i + 1) (children_of mid) → children_of mid ≡ take i (children_of mid) ++ (k ∷ drop (i + 1) (children_of mid)) → IsCutAround key b front behind k
+  cut_around key i b mid front behind k inner at list mid_len mid_height behind_height mid_entries behind_entries height len are_entries rest split =
+      let none : drop (i + 1) (children_of mid) ≡ [] = drop_all (i + 1) (children_of mid) (omega (arith, entries_length mid.len mid.leasts mid.children mid_entries, mid_len)) in
       let front_is : children_of front ≡ take i (children_of mid) = rest ∙ ap (λ l. take i (children_of mid) ++ l) none ∙ append-nil (take i (children_of mid)) in
       let mid_is : children_of mid ≡ children_of front ++ (k ∷ []) = split ∙ ap (λ l. take i (children_of mid) ++ (k ∷ l)) none ∙ ap (λ l. l ++ (k ∷ [])) (sym front_is) in
       let whole : children_of b ≡ children_of front ++ (k ∷ children_of behind) = sym list ∙ ap (λ l. l ++ children_of behind) mid_is ∙ append_assoc (children_of front) (k ∷ []) (children_of behind) in
-      parted_of key i b front behind k inner at (height ∙ mid_height) behind_height run behind_run (omega (arith, len, mid_len)) whole
+      cut_around_of key i b front behind k inner at (height ∙ mid_height) behind_height are_entries behind_entries (omega (arith, len, mid_len)) whole
 
   -- and roots over the children on both sides
-  pub divided_of : (key : ℕ) (b front behind : NodeInner V) (k : NodeChild V) (left right : Seen V) → IsInner b → IsSplitAt key b front behind k → front.height ≡ b.height → behind.height ≡ b.height → IsSideRoot front.height left → IsSideRoot behind.height right → left.rows ≡ rows_of (children_of front) → right.rows ≡ rows_of (children_of behind) → IsDivided key b left k.1.node.value right
-  divided_of key b front behind k left right inner parted fh bh lp rp lr rr = record {
+  pub divided_of : (key : ℕ) (b front behind : NodeInner V) (k : NodeChild V) (left right : Seen V) → IsInner b → IsCutAround key b front behind k → front.height ≡ b.height → behind.height ≡ b.height → IsSideRoot front.height left → IsSideRoot behind.height right → left.rows ≡ rows_of (children_of front) → right.rows ≡ rows_of (children_of behind) → IsDividedNode key b left k.1.node.value right
+  divided_of key b front behind k left right inner around fh bh lp rp lr rr = record {
     front = subst (λ h. IsSideRoot h left) fh lp;
     back = subst (λ h. IsSideRoot h right) bh rp;
-    level = omega (arith, parted.child.level, inner.above_leaves);
-    rows = ap (λ l. l ++ (k.1.node.value.rows ++ right.rows)) lr ∙ ap (λ l. rows_of (children_of front) ++ (k.1.node.value.rows ++ l)) rr ∙ parted.rows;
-    below = subst (KeysBelow key) (sym lr) parted.below;
-    from = subst (KeysFrom key) (sym rr) parted.from;
+    level = omega (arith, around.child.level, inner.above_leaves);
+    rows = ap (λ l. l ++ (k.1.node.value.rows ++ right.rows)) lr ∙ ap (λ l. rows_of (children_of front) ++ (k.1.node.value.rows ++ l)) rr ∙ around.rows;
+    below = subst (KeysBelow key) (sym lr) around.below;
+    from = subst (KeysFrom key) (sym rr) around.from;
   }
 
   -- a leaf cut in two
@@ -149,11 +149,11 @@ module _ {V : Type 0} where
   }
 
   -- the rows of a divided node whose middle was cut, as they are joined
-  pub rejoined : (key : ℕ) (b : NodeInner V) (left mid right low high : Seen V) → IsDivided key b left mid right → IsCut key mid low high → rows_of (children_of b) ≡ (left.rows ++ low.rows) ++ (high.rows ++ right.rows)
+  pub rejoined : (key : ℕ) (b : NodeInner V) (left mid right low high : Seen V) → IsDividedNode key b left mid right → IsCut key mid low high → rows_of (children_of b) ≡ (left.rows ++ low.rows) ++ (high.rows ++ right.rows)
   rejoined key b left mid right low high divided cut =
       sym divided.rows ∙ ap (λ l. left.rows ++ (l ++ right.rows)) (sym cut.rows) ∙ ap (λ l. left.rows ++ l) (append_assoc low.rows high.rows right.rows) ∙ sym (append_assoc left.rows low.rows (high.rows ++ right.rows))
 
-  pub cut_of : {key : ℕ} {b : NodeInner V} {left mid right low high x y : Seen V} → IsDivided key b left mid right → IsCut key mid low high → IsRoot x → x.rows ≡ left.rows ++ low.rows → IsHeightOfBoth left low x.height → IsRoot y → y.rows ≡ high.rows ++ right.rows → IsHeightOfBoth high right y.height → IsCut key (seen_inner b) x y
+  pub cut_of : {key : ℕ} {b : NodeInner V} {left mid right low high x y : Seen V} → IsDividedNode key b left mid right → IsCut key mid low high → IsRoot x → x.rows ≡ left.rows ++ low.rows → IsHeightOfBoth left low x.height → IsRoot y → y.rows ≡ high.rows ++ right.rows → IsHeightOfBoth high right y.height → IsCut key (seen_inner b) x y
   cut_of {key = key} {b = b} {left = left} {mid = mid} {right = right} {low = low} {high = high} {x = x} {y = y} divided cut x_root x_rows x_height y_root y_rows y_height = record {
     low_root = x_root;
     high_root = y_root;
@@ -186,7 +186,7 @@ module _ {V : Type 0} where
     pub blanks : (node.height + 2) * (node.height + 2) ≡ (mid.height + 2) * (mid.height + 2) + (2 * (mid.height + 2) + 1)
     pub steps : (node.height + 1) * (node.height + 1) ≡ (mid.height + 1) * (mid.height + 1) + (2 * (mid.height + 1) + 1)
 
-  pub middle_of : {key : ℕ} {b : NodeInner V} {node left mid right : Seen V} → seen_inner b ≡ node → IsDivided key b left mid right → IsMiddleOf node mid
+  pub middle_of : {key : ℕ} {b : NodeInner V} {node left mid right : Seen V} → seen_inner b ≡ node → IsDividedNode key b left mid right → IsMiddleOf node mid
   middle_of {node = node} {mid = mid} now divided =
       let level : node.height ≡ mid.height + 1 = omega (arith, divided.level, ap (λ s. s.height) now) in
       record { level = level; blanks = square_next (node.height + 2) (mid.height + 2) (omega (arith, level)); steps = square_next (node.height + 1) (mid.height + 1) (omega (arith, level)) }
@@ -198,7 +198,7 @@ module _ {V : Type 0} where
     pub low_near : abs_diff left.height low.height ≤ node.height
     pub high_near : abs_diff high.height right.height ≤ node.height
 
-  pub joinable : {key : ℕ} {b : NodeInner V} {node left mid right low high : Seen V} → IsInner b → seen_inner b ≡ node → IsDivided key b left mid right → IsCut key mid low high → AreJoinable node left low high right
+  pub joinable : {key : ℕ} {b : NodeInner V} {node left mid right low high : Seen V} → IsInner b → seen_inner b ≡ node → IsDividedNode key b left mid right → IsCut key mid low high → AreJoinable node left low high right
   joinable {key = key} {b = b} {node = node} {left = left} {mid = mid} {right = right} {low = low} {high = high} inner now divided cut =
       let level = (middle_of now divided).level in
       let same : b.height ≡ node.height = ap (λ s. s.height) now in

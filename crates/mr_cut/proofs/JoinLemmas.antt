@@ -20,15 +20,15 @@ module _ {V : Type 0} where
 
   pub inner_over_two : (x y : Seen V) (b mid new : NodeInner V) → IsChildNode x.height x → IsChildNode x.height y → IsOrderedBy key_of_pair (x.rows ++ y.rows) → b.height ≡ x.height + 1 → b.len ≡ 0 → AreEntries 0 b.leasts b.children
       → HasOneMoreChild 0 x b mid → mid.height ≡ b.height → mid.len ≡ b.len + 1 → AreEntries mid.len mid.leasts mid.children → HasOneMoreChild 1 y mid new → new.height ≡ mid.height → new.len ≡ mid.len + 1 → AreEntries new.len new.leasts new.children → IsRootOver x y new
-  inner_over_two x y b mid new first second ordered level none empty low low_height low_len low_run high high_height high_len high_run =
+  inner_over_two x y b mid new first second ordered level none empty low low_height low_len low_entries high high_height high_len high_entries =
       let down : x.height ≡ x.height + 1 - 1 = omega arith in
-      let one = lone_inner (x.height + 1) b mid x (omega arith) level none empty low low_height low_len low_run (subst (λ h. IsChildNode h x) down first) in
+      let one = lone_inner (x.height + 1) b mid x (omega arith) level none empty low low_height low_len low_entries (subst (λ h. IsChildNode h x) down first) in
       let rows : rows_of (children_of mid) ≡ x.rows = ap (λ s. s.rows) one.1 in
       let wide : 1 ≡ mid.len = omega (arith, low_len, none) in
       let below : x.height ≡ mid.height - 1 = omega (arith, low_height, level) in
       let back = subst (λ h. IsChildNode h y) below second in
       let order = subst (λ r. IsOrderedBy key_of_pair (r ++ y.rows)) (sym rows) ordered in
-      let two = put_beside High 1 mid new y wide (rest_of mid one.0) high high_height high_len high_run back order in
+      let two = put_beside High 1 mid new y wide (rest_of mid one.0) high high_height high_len high_entries back order in
       record { inner = two.0; two = omega (arith, high_len, wide); level = high_height ∙ low_height ∙ level; rows = two.1 ∙ ap (λ r. r ++ y.rows) rows }
 
   -- the node itself

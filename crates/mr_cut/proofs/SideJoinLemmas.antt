@@ -52,11 +52,11 @@ module _ {V : Type 0} where
 
   -- no children yet
   pub no_rest : (b : NodeInner V) → 0 < b.height → b.len ≡ 0 → AreEntries 0 b.leasts b.children → (IsRest b) × (children_of b ≡ [])
-  no_rest b above_leaves none run =
-      let nil : children_of b ≡ [] = nil_from_length (children_of b) (entries_length 0 b.leasts b.children run) in (
+  no_rest b above_leaves none are_entries =
+      let nil : children_of b ≡ [] = nil_from_length (children_of b) (entries_length 0 b.leasts b.children are_entries) in (
         record {
           above_leaves = above_leaves;
-          entries = subst (λ n. AreEntries n b.leasts b.children) (sym none) run;
+          entries = subst (λ n. AreEntries n b.leasts b.children) (sym none) are_entries;
           children = subst (AllByRecursion (IsChild (b.height - 1))) (sym nil) tt;
           ordered = subst (λ l. IsOrderedBy key_of_pair (rows_of l)) (sym nil) tt;
           keys = subst (λ l. KeysBelow key_limit (rows_of l)) (sym nil) tt;
@@ -69,7 +69,7 @@ module _ {V : Type 0} where
       → HasOneMoreChild i n b new → new.height ≡ b.height → new.len ≡ b.len + 1 → AreEntries new.len new.leasts new.children
       → IsChildNode (b.height - 1) n → IsOrderedBy key_of_pair (beside s (rows_of (children_of b)) n.rows)
       → (IsInner new) × (rows_of (children_of new) ≡ beside s (rows_of (children_of b)) n.rows)
-  put_beside s i b new n place rest inserted height len run node ordered =
+  put_beside s i b new n place rest inserted height len are_entries node ordered =
       let P : NodeChild V → Type 0 = IsChild (b.height - 1) in
       let k = inserted.child in
       let rows = rows_of (children_of b) in
@@ -84,7 +84,7 @@ module _ {V : Type 0} where
         record {
           above_leaves = omega (arith, height, rest.above_leaves);
           some = omega (arith, len);
-          entries = run;
+          entries = are_entries;
           children = subst (λ m. AllByRecursion (IsChild (m - 1)) (children_of new)) (sym height) children;
           ordered = subst (IsOrderedBy key_of_pair) (sym list) ordered;
           keys = subst (KeysBelow key_limit) (sym list) keys;
@@ -100,12 +100,12 @@ module _ {V : Type 0} where
 
   -- an inner node of one child
   pub lone_inner : (h : ℕ) (b new : NodeInner V) (n : Seen V) → 0 < h → b.height ≡ h → b.len ≡ 0 → AreEntries 0 b.leasts b.children → HasOneMoreChild 0 n b new → new.height ≡ b.height → new.len ≡ b.len + 1 → AreEntries new.len new.leasts new.children → IsChildNode (h - 1) n → (IsInner new) × (seen_inner new ≡ seen_with h 1 n.rows)
-  lone_inner h b new n above_leaves level none empty inserted height len run node =
+  lone_inner h b new n above_leaves level none empty inserted height len are_entries node =
       let rest = no_rest b (omega (arith, above_leaves, level)) none empty in
       let same : n.rows ++ rows_of (children_of b) ≡ n.rows = ap (λ l. n.rows ++ rows_of l) rest.1 ∙ append-nil n.rows in
       let fit = subst (λ m. IsChildNode (m - 1) n) (sym level) node in
       let order = subst (IsOrderedBy key_of_pair) (sym same) node.well.ordered in
-      let put = put_beside Low 0 b new n refl rest.0 inserted height len run fit order in
+      let put = put_beside Low 0 b new n refl rest.0 inserted height len are_entries fit order in
       (put.0, seen_same new h n.rows (height ∙ level) (omega (arith, len, none)) (put.1 ∙ same))
 
   -- two neighbours of one height, of these rows and as wide together
@@ -199,13 +199,13 @@ module _ {V : Type 0} where
       → HasOneMoreChild i near b new → new.height ≡ b.height → new.len ≡ b.len + 1 → AreEntries new.len new.leasts new.children
       → IsChildNode (b.height - 1) near → IsTurned s x y near far
       → IsOrderedBy key_of_pair (beside s (rows_of (children_of b)) (x.rows ++ y.rows)) → IsNearBack s b new x y far
-  near_back s i b new x y near far place rest inserted height len run child turned ordered =
+  near_back s i b new x y near far place rest inserted height len are_entries child turned ordered =
       let rows = rows_of (children_of b) in
       let pair = ap (λ r. beside s rows r) (near_rows s x y near far turned) in
       let list = beside_assoc s rows near.rows far.rows ∙ pair in
       let all = subst (IsOrderedBy key_of_pair) (sym list) ordered in
       let first = (beside_ordered s (beside s rows near.rows) far.rows all).0 in
-      let put = put_beside s i b new near place rest inserted height len run child first in
+      let put = put_beside s i b new near place rest inserted height len are_entries child first in
       record { inner = put.0; list = ap (λ r. beside s r far.rows) put.1 ∙ list; ordered = ordered }
 
   pub own_level : (h : ℕ) (x : Seen V) → IsChildNode h x → IsChildNode x.height x
@@ -254,7 +254,7 @@ module _ {V : Type 0} where
       → AreEntries new.len new.leasts new.children → children_of new ≡ take i (children_of b) ++ drop (i + 1) (children_of b)
       → children_of b ≡ take i (children_of b) ++ (k ∷ drop (i + 1) (children_of b))
       → IsOrderedBy key_of_pair (beside s node.rows other.rows) → IsApart s node other new k.1.node.value
-  apart_of {b = b} {new = new} {node = node} s i k other inner now place height len run left split ordered =
+  apart_of {b = b} {new = new} {node = node} s i k other inner now place height len are_entries left split ordered =
       let P : NodeChild V → Type 0 = IsChild (b.height - 1) in
       let child = k.1.node.value in
       let rest = rows_of (children_of new) in
@@ -273,7 +273,7 @@ module _ {V : Type 0} where
       record {
         rest = record {
           above_leaves = omega (arith, height, inner.above_leaves);
-          entries = run;
+          entries = are_entries;
           children = subst (λ m. AllByRecursion (IsChild (m - 1)) (children_of new)) (sym height) children.0;
           ordered = orders.0;
           keys = keys.0;

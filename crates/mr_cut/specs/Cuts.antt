@@ -18,7 +18,7 @@ abbrev pub AreApart : {V : Type 0} → List (ℕ × V) → List (ℕ × V) → T
 AreApart low high = (key : ℕ) × (KeysBelow key low) × (KeysFrom key high)
 
 -- two roots that a node was cut into at a key: the rows in front of the key and those from it on, no higher than the
--- node
+-- node (no public clause cites it)
 pub record IsCut {V : Type 0} (key : ℕ) (whole low high : Seen V) : Type 0 where
   pub low_root : IsRoot low
   pub high_root : IsRoot high
@@ -35,7 +35,7 @@ pub record IsSideRoot {V : Type 0} (height : ℕ) (s : Seen V) : Type 0 where
   pub room : s.height ≡ height → s.width < 32
 
 -- an inner node divided at the child to which a key belongs (no public clause cites it)
-pub record IsDivided {V : Type 0} (key : ℕ) (b : NodeInner V) (left mid right : Seen V) : Type 0 where
+pub record IsDividedNode {V : Type 0} (key : ℕ) (b : NodeInner V) (left mid right : Seen V) : Type 0 where
   pub front : IsSideRoot b.height left
   pub back : IsSideRoot b.height right
   pub level : mid.height + 1 ≡ b.height

@@ -3,7 +3,7 @@ ghost use Rattle.std.specs.Prelude.{◌≡◌, ◌+◌, ◌*◌, ◌<◌, ◌≤
 ghost use Rattle.mr_node.specs.Levels.{children_of, rows_of, IsInner, IsLeaf, seen_leaf};
 ghost use Rattle.mr_node.specs.Steps.{after_steps};
 ghost use Rattle.mr_cut.specs.SideJoins.{IsRest};
-ghost use Rattle.mr_cut.specs.Cuts.{IsSideRoot, IsDivided, IsCut};
+ghost use Rattle.mr_cut.specs.Cuts.{IsSideRoot, IsDividedNode, IsCut};
 
 use crate::joins::join;
 use mr_node::{
@@ -45,7 +45,7 @@ fn divide<V: Drop + Default>(
 ) -> (Box<Node<V>>, Box<Node<V>>, Box<Node<V>>)
     requires inner { IsInner inner }
     requires stock { 0 < stock.old }
-    ensures divided { IsDivided key inner result.0.value result.1.value result.2.value }
+    ensures divided { IsDividedNode key inner result.0.value result.1.value result.2.value }
     ensures stock { stock.old ≤ stock.new + 1 }
     ensures no_fewer { after_steps 0 meter.old ≤ meter.new }
     ensures steps { meter.new ≤ meter.old + 2 }

@@ -6,8 +6,8 @@ use mr_node::Stock;
 use std::alloc::Global;
 use tatp_rows::Refusal;
 
-/// Counts the blank nodes that a slice of a tree of this height wants: `(height + 2)^2 + 1`, no more than it may take
-/// steps.
+/// Counts the blank nodes that a slice of a tree of this height, below 16, wants: `(height + 2)^2 + 1`, no more than
+/// the steps that it may take.
 pub fn need_slice(height: u64) -> usize
     requires { height < 16 }
     ensures number { result ≡ blanks_for_slice height }
@@ -17,8 +17,8 @@ pub fn need_slice(height: u64) -> usize
     levels * levels + 1
 }
 
-/// Counts the blank nodes that a meld of trees of these heights wants: three more than the heights differ by, no more
-/// than it may take steps.
+/// Counts the blank nodes that a meld of trees of these heights, below 16, wants: three more than the heights differ
+/// by, no more than the steps that it may take.
 pub fn need_meld(low: u64, high: u64) -> usize
     requires low { low < 16 }
     requires high { high < 16 }

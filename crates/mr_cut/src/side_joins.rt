@@ -65,7 +65,8 @@ fn even<V: Drop + Default>(
     (low, Some(high))
 }
 
-/// Builds an inner node of these children in a box. One step. It is not inlined: the stack of a side join holds no node then.
+/// Builds an inner node of these children in a box. One step. It is not inlined: the stack of a side join holds no node
+/// then.
 #[inline(never)]
 fn built<V: Drop>(
     inner: Inner<Box<Node<V>>>,

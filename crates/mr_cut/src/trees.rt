@@ -2,7 +2,7 @@
 ghost use Rattle.std.specs.Prelude.{◌≡◌, ◌+◌, ◌-◌, ◌*◌, ◌≤◌, max, ◌++◌, []};
 ghost use Rattle.std.specs.Int.{abs_diff};
 ghost use Rattle.mr_cut.specs.Bounds.{join_steps, blanks_for_slice, most_of_joins, most_of_slice, blanks_for_meld, most_of_meld, fewest_of_meld};
-ghost use Rattle.mr_cut.specs.Cuts.{IsCut, AreApart, rows_below, rows_from};
+ghost use Rattle.mr_cut.specs.Cuts.{AreApart, rows_below, rows_from};
 ghost use Rattle.mr_subtree.specs.Trees.{IsRoot};
 
 use crate::cuts::cut;
@@ -55,7 +55,8 @@ pub fn slice<V: Drop + Default>(tree: SubTree<V>, key: u64, stock: &mut Stock<V>
     requires stock { blanks_for_slice tree.height ≤ stock.old }
     ensures low { result.low.rows ≡ rows_below key tree.rows }
     ensures high { result.high.rows ≡ rows_from key tree.rows }
-    ensures cut { IsCut key tree result.low result.high }
+    ensures apart { AreApart result.low.rows result.high.rows }
+    ensures heights { (result.low.height ≤ tree.height) × (result.high.height ≤ tree.height) }
     ensures path { result.path ≤ 3 * (tree.height + 1) }
     ensures path_no_fewer { tree.height + 3 ≤ result.path }
     ensures joins { result.steps ≤ result.path + most_of_joins tree.height }
@@ -86,7 +87,8 @@ pub fn slice_into<V: Drop + Default>(
     requires stock { blanks_for_slice tree.old.height ≤ stock.old }
     ensures low { tree.new.rows ≡ rows_below key tree.old.rows }
     ensures high { high.new.rows ≡ rows_from key tree.old.rows }
-    ensures cut { IsCut key tree.old tree.new high.new }
+    ensures apart { AreApart tree.new.rows high.new.rows }
+    ensures heights { (tree.new.height ≤ tree.old.height) × (high.new.height ≤ tree.old.height) }
     ensures path { result.1 ≤ 3 * (tree.old.height + 1) }
     ensures path_no_fewer { tree.old.height + 3 ≤ result.1 }
     ensures joins { result.0 ≤ result.1 + most_of_joins tree.old.height }

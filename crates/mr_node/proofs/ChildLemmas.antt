@@ -82,10 +82,10 @@ module _ {V : Type 0} where
 
   -- an inner node with other children of the same kind
   pub inner_of : (b new : NodeInner V) (a d : List (NodeChild V)) (k : NodeChild V) (rows : List (ℕ × V)) → 0 < b.height → new.height ≡ b.height → 0 < new.len → AreEntries new.len new.leasts new.children → children_of new ≡ a ++ (k ∷ d) → AllByRecursion (IsChild (b.height - 1)) a → IsChild (b.height - 1) k → AllByRecursion (IsChild (b.height - 1)) d → rows_of (children_of new) ≡ rows → IsOrderedBy key_of_pair rows → KeysBelow key_limit rows → IsInner new
-  inner_of b new a d k rows above_leaves height some run list before child after e ordered keys = record {
+  inner_of b new a d k rows above_leaves height some are_entries list before child after e ordered keys = record {
     above_leaves = omega (arith, height, above_leaves);
     some = some;
-    entries = run;
+    entries = are_entries;
     children = subst (λ h. AllByRecursion (IsChild (h - 1)) (children_of new)) (sym height) (subst (AllByRecursion (IsChild (b.height - 1))) (sym list) (each-append (IsChild (b.height - 1)) a (k ∷ d) before (child, after)));
     ordered = subst (IsOrderedBy key_of_pair) (sym e) ordered;
     keys = subst (KeysBelow key_limit) (sym e) keys;
@@ -106,10 +106,10 @@ module _ {V : Type 0} where
 
 module _ {B : Type 0} where
   pub counts_more : (n i m : ℕ) (ks : List ℕ) (ps : List (Option (Child B))) → AreEntries n ks ps → i < n → IfSome (get_or ps i None) (λ k. m ≡ k.count) → sum_by (λ k. k.1.count) (take i (entries ks ps)) + m ≡ sum_by (λ k. k.1.count) (take (i + 1) (entries ks ps))
-  counts_more n i m ks ps run lt count =
-      let here = packed_some n i ps run.packed lt in
+  counts_more n i m ks ps are_entries lt count =
+      let here = packed_some n i ps are_entries.packed lt in
       let same : m ≡ here.0.count = subst (λ o. IfSome o (λ k. m ≡ k.count)) here.1 count in
-      let more = entries_next n i here.0 ks ps run here.1 in
+      let more = entries_next n i here.0 ks ps are_entries here.1 in
       omega (arith, same, ap (sum_by (λ k. k.1.count)) more, sum_by-append (λ k. k.1.count) (take i (entries ks ps)) ((get_or ks i 0, here.0) ∷ []))
 
   pub counts_within : (i : ℕ) (children : List (ℕ × Child B)) → sum_by (λ k. k.1.count) (take i children) ≤ sum_by (λ k. k.1.count) children

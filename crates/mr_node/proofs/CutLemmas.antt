@@ -1,4 +1,4 @@
--- A full child that is parted: halved, or with its neighbour, to which it gave.
+-- A full child that is split: halved, or with its neighbour, to which it gave.
 use Rattle.mr_node.proofs.Common.{◌≡◌, ℕ, ◌+◌, ◌-◌, ◌<◌, ◌≤◌, List, [], ◌∷◌, ◌++◌, length, get_or, set, take, drop, Option, Some, None, IsSome, IfSome, min, refl, sym, ap, subst, ◌∙◌, arith, take_at, AllByRecursion, append_assoc, drop_at, length-take-le, length-append, get_or_at, take-append-drop, take-take, IsOrderedBy, row_at, with_row, each-append, each-left, each-right, ordered-right, below-weaker, from-weaker, below_start, from_start, starts_left, Seen, key_of_pair, key_limit, KeysBelow, KeysFrom, StartsWith, AreEntries, NodePart, NodeChild, NodeInner, children_of, rows_of, IsChild, IsInner, seen_inner, IsGrown, IsChildPlace, IsHalved, IsWholeAgain, IsRoomAt, IsSplitAt}
 use Rattle.mr_node.proofs.PlaceLemmas.{packed_some}
 use Rattle.mr_node.proofs.EntryListLemmas.{entries_length, entries_read, entries_split, entries_written}
@@ -14,22 +14,22 @@ module _ {V : Type 0} where
     pub part : get_or b.children i None ≡ Some m.1
 
   read_part : (i : ℕ) (b : NodeInner V) (p q : List (NodeChild V)) (m : NodeChild V) → AreEntries b.len b.leasts b.children → children_of b ≡ p ++ (m ∷ q) → length p ≡ i → IsReadAs i b m
-  read_part i b p q m run e len =
-      let lt : i < b.len = omega (arith, entries_length b.len b.leasts b.children run, ap length e, length-append p (m ∷ q), len) in
-      let some = packed_some b.len i b.children run.packed lt in
-      let same : (get_or b.leasts i 0, some.0) ≡ m = sym (entries_read b.len i some.0 b.leasts b.children run some.1) ∙ ap (λ l. get_or l i (0, some.0)) e ∙ get_or_at p m q (0, some.0) i len in
+  read_part i b p q m are_entries e len =
+      let lt : i < b.len = omega (arith, entries_length b.len b.leasts b.children are_entries, ap length e, length-append p (m ∷ q), len) in
+      let some = packed_some b.len i b.children are_entries.packed lt in
+      let same : (get_or b.leasts i 0, some.0) ≡ m = sym (entries_read b.len i some.0 b.leasts b.children are_entries some.1) ∙ ap (λ l. get_or l i (0, some.0)) e ∙ get_or_at p m q (0, some.0) i len in
       record { within = lt; least = ap (λ k. k.0) same; part = some.1 ∙ ap Some (ap (λ k. k.1) same) }
 
   room_at_of : (key i : ℕ) (b : NodeInner V) (p q : List (NodeChild V)) (m : NodeChild V) → AreEntries b.len b.leasts b.children → children_of b ≡ p ++ (m ∷ q) → length p ≡ i → KeysBelow key (rows_of p) → KeysFrom (key + 1) (rows_of q) → m.1.node.value.width < 32 → IsRoomAt key i b
-  room_at_of key i b p q m run e len below above room =
-      let lt : i < b.len = omega (arith, entries_length b.len b.leasts b.children run, ap length e, length-append p (m ∷ q), len) in
+  room_at_of key i b p q m are_entries e len below above room =
+      let lt : i < b.len = omega (arith, entries_length b.len b.leasts b.children are_entries, ap length e, length-append p (m ∷ q), len) in
       let front : take i (children_of b) ≡ p = ap (take i) e ∙ take_at p (m ∷ q) i len in
       let back : drop (i + 1) (children_of b) ≡ q = ap (drop (i + 1)) (e ∙ sym (append_assoc p (m ∷ []) q)) ∙ drop_at (p ++ (m ∷ [])) q (i + 1) (omega (arith, length-append p (m ∷ []), len)) in
       record {
         within = lt;
         below = subst (λ x. KeysBelow key (rows_of x)) (sym front) below;
         above = subst (λ x. KeysFrom (key + 1) (rows_of x)) (sym back) above;
-        room = subst (λ o. IfSome o (λ k. k.node.value.width < 32)) (sym (read_part i b p q m run e len).part) room;
+        room = subst (λ o. IfSome o (λ k. k.node.value.width < 32)) (sym (read_part i b p q m are_entries e len).part) room;
       }
 
   -- a child that has room is found where the key belongs
@@ -52,9 +52,9 @@ module _ {V : Type 0} where
       subst (λ o. IfSome o (λ k. k.node.value.width ≡ 32)) (sym some.1) (omega (arith, wide, big, cut.child.well.fits))
 
   -- a child was halved, and its upper half put behind it
-  pub parted_halves : (i least : ℕ) (b mid new : NodeInner V) (k low high : NodePart V) (x z : Seen V) → IsInner b → i < b.len → get_or b.children i None ≡ Some k → mid ≡ record b { children = set b.children i (Some low) } → children_of new ≡ take (i + 1) (children_of mid) ++ ((least, high) ∷ drop (i + 1) (children_of mid)) → new.height ≡ mid.height → new.len ≡ mid.len + 1 → AreEntries new.len new.leasts new.children
+  pub split_halves : (i least : ℕ) (b mid new : NodeInner V) (k low high : NodePart V) (x z : Seen V) → IsInner b → i < b.len → get_or b.children i None ≡ Some k → mid ≡ record b { children = set b.children i (Some low) } → children_of new ≡ take (i + 1) (children_of mid) ++ ((least, high) ∷ drop (i + 1) (children_of mid)) → new.height ≡ mid.height → new.len ≡ mid.len + 1 → AreEntries new.len new.leasts new.children
       → IsHalved k.node.value x z → low.node.value ≡ x → low.count ≡ length x.rows → high.node.value ≡ z → high.count ≡ length z.rows → (0 < z.width → StartsWith least z.rows) → IsSplitAt i (i + 1) b new
-  parted_halves i least b mid new k low high x z inner lt got em en height len run halved el cl eh ch starts =
+  split_halves i least b mid new k low high x z inner lt got em en height len are_entries halved el cl eh ch starts =
       let e = children_of b in
       let h = b.height - 1 in
       let old = entries_split b.len i k b.leasts b.children inner.entries got in
@@ -77,7 +77,7 @@ module _ {V : Type 0} where
         list = list;
         height = height ∙ ap (λ n. n.height) em;
         len = omega (arith, len, ap (λ n. n.len) em);
-        entries = run;
+        entries = are_entries;
         rows = ap rows_of list ∙ rows_of-append (take i e) (child_at b i low ∷ ((least, high) ∷ drop (i + 1) e))
             ∙ ap (λ r. rows_of (take i e) ++ r) (ap (λ s. s.rows ++ (high.node.value.rows ++ tail)) el ∙ ap (λ s. x.rows ++ (s.rows ++ tail)) eh ∙ sym (append_assoc x.rows z.rows tail) ∙ ap (λ r. r ++ tail) halved.rows)
             ∙ sym (ap rows_of old ∙ rows_of-append (take i e) (child_at b i k ∷ drop (i + 1) e));
@@ -94,8 +94,8 @@ module _ {V : Type 0} where
   back_children : (h to : ℕ) (children : List (NodeChild V)) → AllByRecursion (IsChild h) children → AllByRecursion (IsChild h) (drop to children)
   back_children h to children all = each-right (IsChild h) (take to children) (drop to children) (subst (AllByRecursion (IsChild h)) (sym (take-append-drop to children)) all)
 
-  pub parted_same : (from to : ℕ) (b new : NodeInner V) → IsInner b → IsSplitAt from to b new → IsWholeAgain 0 b new
-  parted_same from to b new inner sp =
+  pub split_same : (from to : ℕ) (b new : NodeInner V) → IsInner b → IsSplitAt from to b new → IsWholeAgain 0 b new
+  split_same from to b new inner sp =
       let h = b.height - 1 in
       let a = take from (children_of b) in
       let d = drop to (children_of b) in
@@ -127,36 +127,36 @@ module _ {V : Type 0} where
       each-left (λ p. p.0 < key) (rows_of (take from children)) rest (subst (KeysBelow key) cut below)
 
   -- where the second of the two stands
-  parted_front : (from i : ℕ) (b new : NodeInner V) → from ≤ i → i < b.len → IsInner b → (sp : IsSplitAt from (i + 1) b new) → (children_of new ≡ (take from (children_of b) ++ (sp.low ∷ [])) ++ (sp.high ∷ drop (i + 1) (children_of b))) × (length (take from (children_of b)) ≡ from) × (length (take from (children_of b) ++ (sp.low ∷ [])) ≡ from + 1)
-  parted_front from i b new le lt inner sp =
+  split_front : (from i : ℕ) (b new : NodeInner V) → from ≤ i → i < b.len → IsInner b → (sp : IsSplitAt from (i + 1) b new) → (children_of new ≡ (take from (children_of b) ++ (sp.low ∷ [])) ++ (sp.high ∷ drop (i + 1) (children_of b))) × (length (take from (children_of b)) ≡ from) × (length (take from (children_of b) ++ (sp.low ∷ [])) ≡ from + 1)
+  split_front from i b new le lt inner sp =
       let a = take from (children_of b) in
       let long : length a ≡ from = length-take-le from (children_of b) (omega (arith, entries_length b.len b.leasts b.children inner.entries, le, lt)) in
       (sp.list ∙ sym (append_assoc a (sp.low ∷ []) (sp.high ∷ drop (i + 1) (children_of b))), long, omega (arith, length-append a (sp.low ∷ []), long))
 
-  pub parted_next : (from i : ℕ) (b new : NodeInner V) → from ≤ i → i < b.len → IsInner b → (sp : IsSplitAt from (i + 1) b new) → IsReadAs (from + 1) new sp.high
-  parted_next from i b new le lt inner sp =
-      let front = parted_front from i b new le lt inner sp in
+  pub split_next : (from i : ℕ) (b new : NodeInner V) → from ≤ i → i < b.len → IsInner b → (sp : IsSplitAt from (i + 1) b new) → IsReadAs (from + 1) new sp.high
+  split_next from i b new le lt inner sp =
+      let front = split_front from i b new le lt inner sp in
       read_part (from + 1) new (take from (children_of b) ++ (sp.low ∷ [])) (drop (i + 1) (children_of b)) sp.high sp.entries front.0 front.2
 
-  pub parted_low : (from i : ℕ) (b new : NodeInner V) (key : ℕ) (k : NodeChild V) → from ≤ i → i < b.len → IsInner b → IsCutAt key (b.height - 1) i (children_of b) k → (sp : IsSplitAt from (i + 1) b new) → key < sp.high.0 → IsRoomAt key from new
-  parted_low from i b new key k le lt inner cut sp less =
+  pub split_low : (from i : ℕ) (b new : NodeInner V) (key : ℕ) (k : NodeChild V) → from ≤ i → i < b.len → IsInner b → IsCutAt key (b.height - 1) i (children_of b) k → (sp : IsSplitAt from (i + 1) b new) → key < sp.high.0 → IsRoomAt key from new
+  split_low from i b new key k le lt inner cut sp less =
       let d = drop (i + 1) (children_of b) in
       let low = sp.low.1.node.value.rows in
       let high = sp.high.1.node.value.rows in
       let o = ordered-right key_of_pair low (high ++ rows_of d) (ordered_tail from (i + 1) b new inner sp) in
-      room_at_of key from new (take from (children_of b)) (sp.high ∷ d) sp.low sp.entries sp.list (parted_front from i b new le lt inner sp).1 (below_front key from i (children_of b) le cut.below)
+      room_at_of key from new (take from (children_of b)) (sp.high ∷ d) sp.low sp.entries sp.list (split_front from i b new le lt inner sp).1 (below_front key from i (children_of b) le cut.below)
       (from-weaker key_of_pair (key + 1) sp.high.0 (high ++ rows_of d) (omega (arith, less)) (from_start key_of_pair sp.high.0 (high ++ rows_of d) (starts_left key_of_pair sp.high.0 high (rows_of d) sp.upper.first) o))
       sp.low_room
 
-  pub parted_high : (from i : ℕ) (b new : NodeInner V) (key : ℕ) (k : NodeChild V) → from ≤ i → i < b.len → IsInner b → IsCutAt key (b.height - 1) i (children_of b) k → (sp : IsSplitAt from (i + 1) b new) → sp.high.0 ≤ key → IsRoomAt key (from + 1) new
-  parted_high from i b new key k le lt inner cut sp more =
+  pub split_high : (from i : ℕ) (b new : NodeInner V) (key : ℕ) (k : NodeChild V) → from ≤ i → i < b.len → IsInner b → IsCutAt key (b.height - 1) i (children_of b) k → (sp : IsSplitAt from (i + 1) b new) → sp.high.0 ≤ key → IsRoomAt key (from + 1) new
+  split_high from i b new key k le lt inner cut sp more =
       let a = take from (children_of b) in
       let d = drop (i + 1) (children_of b) in
       let low = sp.low.1.node.value.rows in
       let high = sp.high.1.node.value.rows in
       let lows = below-weaker key_of_pair sp.high.0 key low more (below_start key_of_pair sp.high.0 low high (rows_of d) sp.upper.first (ordered_tail from (i + 1) b new inner sp)) in
       let below = subst (KeysBelow key) (sym (rows_of-append a (sp.low ∷ []))) (each-append (λ p. p.0 < key) (rows_of a) (low ++ []) (below_front key from i (children_of b) le cut.below) (each-append (λ p. p.0 < key) low [] lows tt)) in
-      let front = parted_front from i b new le lt inner sp in
+      let front = split_front from i b new le lt inner sp in
       room_at_of key (from + 1) new (a ++ (sp.low ∷ [])) d sp.high sp.entries front.0 front.2 below cut.above sp.high_room
 
   -- the place with room as a cut

@@ -190,7 +190,7 @@ module _ {V : Type 0} where
       }
 
   pub inner_length : (b : NodeInner V) → AreEntries b.len b.leasts b.children → length (children_of b) ≡ b.len
-  inner_length b run = entries_length b.len b.leasts b.children run
+  inner_length b are_entries = entries_length b.len b.leasts b.children are_entries
 
   pub evened_inners : (r : Bool) (a b c d : NodeInner V) (z : Seen V) → IsInner a → IsInner b → AreInners a b → AreMovedChildren a b c d → AreEvenWidths r (length (children_of c)) (length (children_of d)) → (r ≡ false → z ≡ seen_inner d) → (IsInner c) × (r ≡ false → IsInner d) × AreEvened r (seen_inner a) (seen_inner b) (seen_inner c) z
   evened_inners r a b c d z first second two m even same =
@@ -205,8 +205,8 @@ module _ {V : Type 0} where
       )
 
   pub halved_inner : (a b c d : NodeInner V) → IsInner a → AreEntries 0 b.leasts b.children → b.height ≡ a.height → AreMovedChildren a b c d → a.len ≡ 32 → length (children_of c) ≡ 16 → (IsInner c) × (IsInner d) × IsHalved (seen_inner a) (seen_inner c) (seen_inner d)
-  halved_inner a b c d whole run level m la lc =
-      let none : children_of b ≡ [] = nil_from_length (children_of b) (entries_length 0 b.leasts b.children run) in
+  halved_inner a b c d whole are_entries level m la lc =
+      let none : children_of b ≡ [] = nil_from_length (children_of b) (entries_length 0 b.leasts b.children are_entries) in
       let same : children_of a ++ children_of b ≡ children_of a = ap (λ l. children_of a ++ l) none ∙ append-nil (children_of a) in
       let two : AreInners a b = record {
         above_leaves = whole.above_leaves;

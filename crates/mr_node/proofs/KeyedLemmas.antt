@@ -1,5 +1,5 @@
--- Keys in an array, and beside them items, of which each has its key: what the pairs are after a write, an insertion and
--- a removal.
+-- Keys in an array, and beside them items, of which each has its key: what the pairs are after a write, an insertion
+-- and a removal.
 use Rattle.mr_node.proofs.Common.{◌≡◌, ℕ, ◌+◌, ◌-◌, ◌<◌, ◌≤◌, suc, zero, List, [], ◌∷◌, ◌++◌, length, reverse, replicate, get_or, set, take, drop, Some, IfSome, refl, sym, ap, subst, ◌∙◌, arith, add-one, inl, inr, length-append, length-take, length-drop, set_split, take-set, length-set, length-take-le, length-reverse, reverse-append, take_all, take_more, drop_more, slice_get_within, get_or_from_slice_get, slice_get-get_or, length-zip, get_or-zip, split_at, cases_lt, insert, remove, slice_get, zip, AllByRecursion, IsOrderedBy, key_of_pair, key_limit, KeysBelow, IsRising, no_key, IsPadded, AreKeyed}
 
 -- what stands behind the keys

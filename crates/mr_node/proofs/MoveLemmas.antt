@@ -14,9 +14,9 @@ module _ {X : Type 0} where
 
   -- an entry that was put at a place
   pub entries_put : (n p k : ℕ) (x : X) (ks keys : List ℕ) (ps new : List (Option X)) → AreEntries n ks ps → length ks ≡ 32 → length ps ≡ 32 → n < 32 → p ≤ n → keys ≡ insert (take 31 ks) p k → ((front : List (Option X)) (last : Option X) → set ps 31 (Some x) ≡ front ++ (last ∷ []) → new ≡ insert front p last) → (AreEntries (n + 1) keys new) × (entries keys new ≡ take p (entries ks ps) ++ ((k, x) ∷ drop p (entries ks ps)))
-  entries_put n p k x ks keys ps new run long wide room within ek moved =
-      let both = pushed n p x ps new wide run.packed room within moved in
-      subst (λ l. (AreEntries (n + 1) l new) × (entries l new ≡ take p (entries ks ps) ++ ((k, x) ∷ drop p (entries ks ps)))) (sym ek) (entries_inserted n p k x ks ps new run long room within both.0 both.1)
+  entries_put n p k x ks keys ps new are_entries long wide room within ek moved =
+      let both = pushed n p x ps new wide are_entries.packed room within moved in
+      subst (λ l. (AreEntries (n + 1) l new) × (entries l new ≡ take p (entries ks ps) ++ ((k, x) ∷ drop p (entries ks ps)))) (sym ek) (entries_inserted n p k x ks ps new are_entries long room within both.0 both.1)
 
   pulled : (n p : ℕ) (y : Option X) (ps new : List (Option X)) → IsPacked n ps → p < n → y ≡ None → new ≡ remove_range (set ps p y) p (p + 1) ++ slice_range (set ps p y) p (p + 1) → (IsPacked (n - 1) new) × (somes new ≡ take p (somes ps) ++ drop (p + 1) (somes ps))
   pulled n p y ps new packed within none moved =
@@ -29,7 +29,7 @@ module _ {X : Type 0} where
   -- an entry that was taken out of a place
   pub entries_taken : (n p : ℕ) (r y : Option X) (x : X) (ks keys : List ℕ) (ps new : List (Option X)) → AreEntries n ks ps → p < n → get_or ps p r ≡ Some x → y ≡ None → keys ≡ remove ks p ++ (no_key ∷ []) → new ≡ remove_range (set ps p y) p (p + 1) ++ slice_range (set ps p y) p (p + 1)
       → (AreEntries (n - 1) keys new) × (entries keys new ≡ take p (entries ks ps) ++ drop (p + 1) (entries ks ps)) × (entries ks ps ≡ take p (entries ks ps) ++ ((get_or ks p 0, x) ∷ drop (p + 1) (entries ks ps)))
-  entries_taken n p r y x ks keys ps new run within got none ek moved =
-      let both = pulled n p y ps new run.packed within none moved in
-      let all = subst (λ l. (AreEntries (n - 1) l new) × (entries l new ≡ take p (entries ks ps) ++ drop (p + 1) (entries ks ps))) (sym ek) (entries_removed n p ks ps new run within both.0 both.1) in
-      (all.0, all.1, entries_split n p x ks ps run (got_used n p r x ps run.packed within got))
+  entries_taken n p r y x ks keys ps new are_entries within got none ek moved =
+      let both = pulled n p y ps new are_entries.packed within none moved in
+      let all = subst (λ l. (AreEntries (n - 1) l new) × (entries l new ≡ take p (entries ks ps) ++ drop (p + 1) (entries ks ps))) (sym ek) (entries_removed n p ks ps new are_entries within both.0 both.1) in
+      (all.0, all.1, entries_split n p x ks ps are_entries (got_used n p r x ps are_entries.packed within got))

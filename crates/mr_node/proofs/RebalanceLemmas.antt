@@ -14,11 +14,11 @@ module _ {X : Type 0} where
   -- two neighbours written, the second one with its key
   pub pair_written : (n p l : ℕ) (y : Option X) (a b : X) (ks : List ℕ) (ps : List (Option X)) → AreEntries n ks ps → p + 1 < n
       → (AreEntries n (set ks (p + 1) l) (set (set (set ps (p + 1) y) p (Some a)) (p + 1) (Some b))) × (entries (set ks (p + 1) l) (set (set (set ps (p + 1) y) p (Some a)) (p + 1) (Some b)) ≡ take p (entries ks ps) ++ ((get_or ks p 0, a) ∷ ((l, b) ∷ drop (p + 2) (entries ks ps))))
-  pair_written n p l y a b ks ps run lt =
+  pair_written n p l y a b ks ps are_entries lt =
       let e = entries ks ps in
-      let first = entries_written n p a ks ps run (omega (arith, lt)) in
+      let first = entries_written n p a ks ps are_entries (omega (arith, lt)) in
       let both = entries_both n (p + 1) l b ks (set ps p (Some a)) first.0 lt in
-      let len = length-take-le p e (omega (arith, entries_length n ks ps run, lt)) in
+      let len = length-take-le p e (omega (arith, entries_length n ks ps are_entries, lt)) in
       let mid = entries ks (set ps p (Some a)) in
       let cut : mid ≡ (take p e ++ ((get_or ks p 0, a) ∷ [])) ++ drop (p + 1) e = first.1 ∙ sym (append_assoc (take p e) ((get_or ks p 0, a) ∷ []) (drop (p + 1) e)) in
       let long : length (take p e ++ ((get_or ks p 0, a) ∷ [])) ≡ p + 1 = omega (arith, length-append (take p e) ((get_or ks p 0, a) ∷ []), len) in
@@ -149,13 +149,13 @@ module _ {V : Type 0} where
 
   -- an inner node with other children in the place of two
   spliced_of : (p : ℕ) (b new : NodeInner V) (m : List (NodeChild V)) → 0 < new.len → b.len ≤ new.len + 1 → new.height ≡ b.height → AreEntries new.len new.leasts new.children → children_of new ≡ take p (children_of b) ++ (m ++ drop (p + 2) (children_of b)) → rows_of m ≡ rows_of (take 2 (drop p (children_of b))) → AllByRecursion (IsChild (b.height - 1)) m → IsSplicedAt p b new
-  spliced_of p b new m some len height run list rows whole =
+  spliced_of p b new m some len height are_entries list rows whole =
       let e = children_of b in
       record {
         height = height;
         len = len;
         some = some;
-        entries = run;
+        entries = are_entries;
         rows = ap rows_of list ∙ rows_of-append (take p e) (m ++ drop (p + 2) e) ∙ ap (λ r. rows_of (take p e) ++ r) (rows_of-append m (drop (p + 2) e) ∙ ap (λ r. r ++ rows_of (drop (p + 2) e)) rows) ∙ sym (rows_apart p e);
         children = λ beside. subst (AllByRecursion (IsChild (b.height - 1))) (sym list) (each-append (IsChild (b.height - 1)) (take p e) (m ++ drop (p + 2) e) beside.before (each-append (IsChild (b.height - 1)) m (drop (p + 2) e) whole beside.after));
       }
@@ -167,7 +167,7 @@ module _ {V : Type 0} where
 
   -- the second one went
   pub spliced_one : (p many : ℕ) (b mid new : NodeInner V) → p + 1 < b.len → IsInnerOf 15 b → IsPairAt p many true b mid → new.height ≡ mid.height → new.len + 1 ≡ mid.len → AreEntries new.len new.leasts new.children → children_of new ≡ take (p + 1) (children_of mid) ++ drop (p + 1 + 1) (children_of mid) → IsSplicedAt p b new
-  spliced_one p many b mid new lt inner at height len run rest =
+  spliced_one p many b mid new lt inner at height len are_entries rest =
       let e = children_of b in
       let long = length-take-le p e (omega (arith, entries_length b.len b.leasts b.children inner.entries, lt)) in
       let front = take p e ++ (at.low ∷ []) in
@@ -176,7 +176,7 @@ module _ {V : Type 0} where
       let one : take (p + 1) (children_of mid) ≡ front = ap (take (p + 1)) cut ∙ take_at front (at.high ∷ drop (p + 2) e) (p + 1) wide in
       let two : drop (p + 1 + 1) (children_of mid) ≡ drop (p + 2) e = sym (drop-drop 1 (p + 1) (children_of mid)) ∙ ap (drop 1) (ap (drop (p + 1)) cut ∙ drop_at front (at.high ∷ drop (p + 2) e) (p + 1) wide) in
       let list : children_of new ≡ take p e ++ ((at.low ∷ []) ++ drop (p + 2) e) = rest ∙ ap (λ r. r ++ drop (p + 1 + 1) (children_of mid)) one ∙ ap (λ r. front ++ r) two ∙ append_assoc (take p e) (at.low ∷ []) (drop (p + 2) e) in
-      spliced_of p b new (at.low ∷ []) (omega (arith, len, at.len, lt)) (omega (arith, len, at.len)) (height ∙ at.height) run list (append-nil at.low.1.node.value.rows ∙ at.children.1) (at.children.0, tt)
+      spliced_of p b new (at.low ∷ []) (omega (arith, len, at.len, lt)) (omega (arith, len, at.len)) (height ∙ at.height) are_entries list (append-nil at.low.1.node.value.rows ∙ at.children.1) (at.children.0, tt)
 
   -- children that are half full lack one at most
   pub loosened : (b : NodeInner V) → IsInner b → IsInnerOf 15 b
@@ -219,9 +219,9 @@ module _ {V : Type 0} where
       full_at (Some k) h = sym h
 
   -- a full child gave to the one before it, and both have room
-  pub parted_given : (i m many : ℕ) (joined : Bool) (b new : NodeInner V) → i ≡ m + 1 → many < 32 → IsInner b → IsGiving m i many b → IsPairAt m many joined b new → IsSplitAt m (i + 1) b new
-  parted_given i m many true b new e few inner giving at = absurd (omega (arith, giving.less, at.width, at.children.2))
-  parted_given i m many false b new e few inner giving at = record {
+  pub split_given : (i m many : ℕ) (joined : Bool) (b new : NodeInner V) → i ≡ m + 1 → many < 32 → IsInner b → IsGiving m i many b → IsPairAt m many joined b new → IsSplitAt m (i + 1) b new
+  split_given i m many true b new e few inner giving at = absurd (omega (arith, giving.less, at.width, at.children.2))
+  split_given i m many false b new e few inner giving at = record {
     low = at.low;
     high = at.high;
     list = at.list ∙ ap (λ j. take m (children_of b) ++ (at.low ∷ (at.high ∷ drop j (children_of b)))) (omega (arith, e));

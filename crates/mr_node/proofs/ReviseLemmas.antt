@@ -15,14 +15,14 @@ module _ {V : Type 0} where
   revised_none key change rows is = ap (λ o. unwrap_or (option_map (λ x. with_row_at key_of_pair key (key, change x) rows) o) rows) is
 
   -- what is spent on it
-  pub spent_some : {E : Type 0} (key : ℕ) (spent : E → V → E) (edit : E) (v : V) (rows : List (ℕ × V)) → value_at key rows ≡ Some v → spent_at key spent edit rows ≡ spent edit v
-  spent_some key spent edit v rows is = ap (λ o. unwrap_or (option_map (spent edit) o) edit) is
+  pub spent_some : {E : Type 0} (key : ℕ) (spent : E → V → E) (revision : E) (v : V) (rows : List (ℕ × V)) → value_at key rows ≡ Some v → spent_at key spent revision rows ≡ spent revision v
+  spent_some key spent revision v rows is = ap (λ o. unwrap_or (option_map (spent revision) o) revision) is
 
-  pub spent_none : {E : Type 0} (key : ℕ) (spent : E → V → E) (edit : E) (rows : List (ℕ × V)) → value_at key rows ≡ None → spent_at key spent edit rows ≡ edit
-  spent_none key spent edit rows is = ap (λ o. unwrap_or (option_map (spent edit) o) edit) is
+  pub spent_none : {E : Type 0} (key : ℕ) (spent : E → V → E) (revision : E) (rows : List (ℕ × V)) → value_at key rows ≡ None → spent_at key spent revision rows ≡ revision
+  spent_none key spent revision rows is = ap (λ o. unwrap_or (option_map (spent revision) o) revision) is
 
-  pub spent_same : {E : Type 0} (key : ℕ) (spent : E → V → E) (edit : E) (rows others : List (ℕ × V)) → value_at key rows ≡ value_at key others → spent_at key spent edit rows ≡ spent_at key spent edit others
-  spent_same key spent edit rows others same = ap (λ o. unwrap_or (option_map (spent edit) o) edit) same
+  pub spent_same : {E : Type 0} (key : ℕ) (spent : E → V → E) (revision : E) (rows others : List (ℕ × V)) → value_at key rows ≡ value_at key others → spent_at key spent revision rows ≡ spent_at key spent revision others
+  spent_same key spent revision rows others same = ap (λ o. unwrap_or (option_map (spent revision) o) revision) same
 
   -- a value changed in its place
   pub value_changed : (i : ℕ) (r y : V) (change : V → V) (xs ws : List V) → ws ≡ xs → i < length xs → y ≡ change (get_or ws i r) → IfSome (slice_get xs i) (λ v. refill (length xs) xs (set ws i y) ≡ set xs i (change v))
@@ -40,11 +40,11 @@ module _ {V : Type 0} where
       let after = leaf_written key i (change v) leaf new h there ek (subst (λ o. IfSome o (λ v. new.values.items ≡ set leaf.values.items i (change v))) some.1 ev) in
       (after.0, after.1 ∙ sym (revised_some key change v (pairs_of leaf) is), after.2)
 
-  pub leaf_spent : {E : Type 0} (key i : ℕ) (spent : E → V → E) (edit now : E) (leaf : Leaf V) → IsLeaf leaf → IsThere key i leaf → IfSome (slice_get leaf.values.items i) (λ v. now ≡ spent edit v) → now ≡ spent_at key spent edit (pairs_of leaf)
-  leaf_spent key i spent edit now leaf h there e =
+  pub leaf_spent : {E : Type 0} (key i : ℕ) (spent : E → V → E) (revision now : E) (leaf : Leaf V) → IsLeaf leaf → IsThere key i leaf → IfSome (slice_get leaf.values.items i) (λ v. now ≡ spent revision v) → now ≡ spent_at key spent revision (pairs_of leaf)
+  leaf_spent key i spent revision now leaf h there e =
       let some = leaf_some i leaf h there.within in
       let is : value_at key (pairs_of leaf) ≡ Some some.0 = sym (found_value key i leaf h there) ∙ some.1 in
-      subst (λ o. IfSome o (λ v. now ≡ spent edit v)) some.1 e ∙ sym (spent_some key spent edit some.0 (pairs_of leaf) is)
+      subst (λ o. IfSome o (λ v. now ≡ spent revision v)) some.1 e ∙ sym (spent_some key spent revision some.0 (pairs_of leaf) is)
 
   pub leaf_found : (key i : ℕ) (leaf : Leaf V) → IsLeaf leaf → IsThere key i leaf → true ≡ is_some (value_at key (pairs_of leaf))
   leaf_found key i leaf h there = sym (ap is_some (sym (found_value key i leaf h there) ∙ (leaf_some i leaf h there.within).1))

@@ -23,7 +23,7 @@ module _ {V : Type 0} where
 
   -- a new root over two halves
   pub root_inner : (n x y : Seen V) (start mid new : NodeInner V) → IsWell n → IsHalved n x y → start.height ≡ n.height + 1 → start.len ≡ 0 → AreEntries 0 start.leasts start.children → mid.height ≡ start.height → mid.len ≡ start.len + 1 → new.height ≡ mid.height → new.len ≡ mid.len + 1 → AreEntries new.len new.leasts new.children → HasOneMoreChild 0 x start mid → HasOneMoreChild 1 y mid new → (IsInner new) × HasNewRoot n (seen_inner new)
-  root_inner n x y start mid new well half height len none mid_height mid_len new_height new_len run low high =
+  root_inner n x y start mid new well half height len none mid_height mid_len new_height new_len are_entries low high =
       let nil : children_of start ≡ [] = nil_from_length (children_of start) (entries_length 0 start.leasts start.children none) in
       let list : children_of new ≡ low.child ∷ (high.child ∷ []) = high.list ∙ ap (λ l. take 1 l ++ (high.child ∷ drop 1 l)) (low.list ∙ ap (λ l. low.child ∷ l) nil) in
       let rows : rows_of (children_of new) ≡ n.rows = ap rows_of list ∙ ap (λ r. low.child.1.node.value.rows ++ r) (append-nil high.child.1.node.value.rows) ∙ ap (λ s. s.rows ++ high.child.1.node.value.rows) low.same ∙ ap (λ s. x.rows ++ s.rows) high.same ∙ half.rows in
@@ -35,7 +35,7 @@ module _ {V : Type 0} where
       let inner : IsInner new = record {
         above_leaves = omega (arith, up);
         some = omega (arith, two);
-        entries = run;
+        entries = are_entries;
         children = subst (AllByRecursion (IsChild (new.height - 1))) (sym list) (first, (second, tt));
         ordered = subst (IsOrderedBy key_of_pair) (sym rows) well.ordered;
         keys = subst (KeysBelow key_limit) (sym rows) well.keys;

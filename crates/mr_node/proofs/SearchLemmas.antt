@@ -115,9 +115,9 @@ stop_of key m r ks long rising four e =
 
 -- the place of a child, from the number of least keys that are not above the key
 pub child_placed : {X : Type 0} (key least n r : ℕ) (ks : List ℕ) (ps : List (Option X)) → length ks ≡ 32 → 0 < n → AreEntries n ks ps → IsOrderedBy key_of_pair (entries ks ps) → KeysBelow key_limit (entries ks ps) → least ≡ min (key + 1) no_key → IsStop least r ks → IsChildPlace key (r - 1) n ks
-child_placed key least n r ks ps long some run ordered below e stop =
+child_placed key least n r ks ps long some are_entries ordered below e stop =
     let few : r ≤ n = elim (cases_lt n r) [
-      | inl more ↦ absurd (omega (arith, stop.before (omega (arith, more)), entries_behind n (r - 1) ks ps run (omega (arith, more)) (omega (arith, more, stop.within)), e))
+      | inl more ↦ absurd (omega (arith, stop.before (omega (arith, more)), entries_behind n (r - 1) ks ps are_entries (omega (arith, more)) (omega (arith, more, stop.within)), e))
       | inr le ↦ le
     ] in
     record {
@@ -126,19 +126,19 @@ child_placed key least n r ks ps long some run ordered below e stop =
       next = λ more. elim (cases_lt 0 r) [
         | inl lt ↦
             let same : r - 1 + 1 ≡ r = omega (arith, lt) in
-            subst (λ j. key < get_or ks j 0) (sym same) (omega (arith, stop.here (omega (arith, same, more, run.fits, long)), e, entries_below n r ks ps run below (omega (arith, same, more))))
+            subst (λ j. key < get_or ks j 0) (sym same) (omega (arith, stop.here (omega (arith, same, more, are_entries.fits, long)), e, entries_below n r ks ps are_entries below (omega (arith, same, more))))
         | inr none ↦
             let front : get_or ks r 0 ≡ get_or ks 0 0 = ap (λ j. get_or ks j 0) (omega (arith, none)) in
-            omega (arith, stop.here (omega (arith, none, long)), front, e, entries_below n 0 ks ps run below some, entries_rises n ks ps run ordered below 0 (r - 1 + 1) (omega arith) (omega (arith, more, run.fits, long)))
+            omega (arith, stop.here (omega (arith, none, long)), front, e, entries_below n 0 ks ps are_entries below some, entries_rises n ks ps are_entries ordered below 0 (r - 1 + 1) (omega arith) (omega (arith, more, are_entries.fits, long)))
       ];
     }
 
 -- and from the least keys on both sides
 pub child_between : {X : Type 0} (key n i : ℕ) (ks : List ℕ) (ps : List (Option X)) → length ks ≡ 32 → AreEntries n ks ps → (i < 31) × (get_or ks i 0 ≤ key) × (key < get_or ks (i + 1) 0) → IsChildPlace key i n ks
-child_between key n i ks ps long run at = record {
+child_between key n i ks ps long are_entries at = record {
   within = elim (cases_lt i n) [
     | inl lt ↦ lt
-    | inr past ↦ absurd (omega (arith, at.1, at.2, entries_behind n i ks ps run past (omega (arith, long, at.0)), entries_behind n (i + 1) ks ps run (omega (arith, past)) (omega (arith, long, at.0))))
+    | inr past ↦ absurd (omega (arith, at.1, at.2, entries_behind n i ks ps are_entries past (omega (arith, long, at.0)), entries_behind n (i + 1) ks ps are_entries (omega (arith, past)) (omega (arith, long, at.0))))
   ];
   here = λ front. at.1;
   next = λ more. at.2;

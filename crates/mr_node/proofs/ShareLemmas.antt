@@ -129,12 +129,12 @@ module _ {X : Type 0} where
 
   -- the last entry
   last_entry : (n i : ℕ) (x : X) (ks : List ℕ) (ps : List (Option X)) → i + 1 ≡ n → AreEntries n ks ps → get_or ps i None ≡ Some x → drop i (entries ks ps) ≡ (get_or ks i 0, x) ∷ []
-  last_entry n i x ks ps one run got =
+  last_entry n i x ks ps one are_entries got =
       let all : List (ℕ × X) = entries ks ps in
-      let len : length all ≡ n = entries_length n ks ps run in
+      let len : length all ≡ n = entries_length n ks ps are_entries in
       let front : length (take i all) ≡ i = length-take-le i all (omega (arith, len, one)) in
       let rest : List (ℕ × X) = (get_or ks i 0, x) ∷ drop (i + 1) all in
-      ap (drop i) (entries_split n i x ks ps run got)
+      ap (drop i) (entries_split n i x ks ps are_entries got)
       ∙ ap (λ j. drop j (take i all ++ rest)) (sym front)
       ∙ drop-append_seam (take i all) rest
       ∙ ap (λ l. (get_or ks i 0, x) ∷ l) (drop_all (i + 1) all (omega (arith, len, one)))
@@ -143,17 +143,17 @@ module _ {X : Type 0} where
   abbrev pub IsGiven : (n m : ℕ) (ks ls : List ℕ) (new more : List (Option X)) (from to : List (ℕ × X)) → Type 0
   IsGiven n m ks ls new more from to = (AreEntries n ks new) × (AreEntries m ls more) × (entries ks new ≡ take (length from - 1) from) × (entries ls more ≡ to ++ drop (length from - 1) from)
 
-  -- the last entry of the one run behind those of the other
+  -- the last entry of the one list behind those of the other
   entries_given : (n i m : ℕ) (x : X) (ks ls : List ℕ) (ps qs new more : List (Option X)) → i + 1 ≡ n → AreEntries n ks ps → AreEntries m ls qs → length ls ≡ 32 → m < 32 → get_or ps i None ≡ Some x → IsPacked i new → somes new ≡ take i (somes ps) → IsPacked (m + 1) more → somes more ≡ somes qs ++ (x ∷ [])
       → IsGiven i (m + 1) (set ks i no_key) (set ls m (get_or ks i 0)) new more (entries ks ps) (entries ls qs)
-  entries_given n i m x ks ls ps qs new more one run to long room got packed e filled f =
-      let popped = entries_popped n i ks ps new one run packed e in
+  entries_given n i m x ks ls ps qs new more one are_entries to long room got packed e filled f =
+      let popped = entries_popped n i ks ps new one are_entries packed e in
       let pushed = entries_pushed m (get_or ks i 0) x ls qs more to long room filled f in
-      let at : i ≡ length (entries ks ps) - 1 = omega (arith, entries_length n ks ps run, one) in (
+      let at : i ≡ length (entries ks ps) - 1 = omega (arith, entries_length n ks ps are_entries, one) in (
         popped.0,
         pushed.0,
         popped.1 ∙ ap (λ j. take j (entries ks ps)) at,
-        pushed.1 ∙ ap (λ l. entries ls qs ++ l) (sym (last_entry n i x ks ps one run got)) ∙ ap (λ j. entries ls qs ++ drop j (entries ks ps)) at,
+        pushed.1 ∙ ap (λ l. entries ls qs ++ l) (sym (last_entry n i x ks ps one are_entries got)) ∙ ap (λ j. entries ls qs ++ drop j (entries ks ps)) at,
       )
 
   -- two leaves after the last entry of the one went behind those of the other; before, these were their entries
@@ -182,11 +182,11 @@ module _ {X : Type 0} where
   -- of places of which the first are used, the last used goes from the one list to the other
   pub inner_given : (n i m : ℕ) (r y o : Option X) (ks ls : List ℕ) (ps qs : List (Option X)) → i + 1 ≡ n → AreEntries n ks ps → AreEntries m ls qs → length ls ≡ 32 → length qs ≡ 32 → m < 32 → o ≡ get_or ps i r → y ≡ None
       → IsGiven i (m + 1) (set ks i no_key) (set ls m (get_or ks i 0)) (set ps i y) (set qs m o) (entries ks ps) (entries ls qs)
-  inner_given n i m r y o ks ls ps qs one run to long wide room eo ey =
-      let used = packed_some n i ps run.packed (omega (arith, one)) in
-      let same : o ≡ Some used.0 = eo ∙ get_or_default ps i r None (omega (arith, packed_fits n ps run.packed, one)) ∙ used.1 in
-      let packed = packed_same n (i + 1) ps (sym one) run.packed in
-      let given = entries_given n i m used.0 ks ls ps qs (set ps i None) (set qs m (Some used.0)) one run to long room used.1
+  inner_given n i m r y o ks ls ps qs one are_entries to long wide room eo ey =
+      let used = packed_some n i ps are_entries.packed (omega (arith, one)) in
+      let same : o ≡ Some used.0 = eo ∙ get_or_default ps i r None (omega (arith, packed_fits n ps are_entries.packed, one)) ∙ used.1 in
+      let packed = packed_same n (i + 1) ps (sym one) are_entries.packed in
+      let given = entries_given n i m used.0 ks ls ps qs (set ps i None) (set qs m (Some used.0)) one are_entries to long room used.1
       (packed_less i ps packed) (somes_less i ps packed) (packed_next m used.0 qs to.packed (omega (arith, wide, room))) (somes_next m used.0 qs to.packed (omega (arith, wide, room))) in
       let new = ap (set ps i) (sym ey) in
       let more = ap (set qs m) (sym same) in (
@@ -216,9 +216,9 @@ module _ {X : Type 0} where
   leaf_turned n ks keys xs new wide h ek e = rw (ek, e) (keyed_turned n ks xs wide h)
 
   pub inner_turned : (n : ℕ) (ks keys : List ℕ) (ps new : List (Option X)) → AreEntries n ks ps → keys ≡ reverse (take n ks) ++ drop n ks → new ≡ reverse (take n ps) ++ drop n ps → (AreEntries n keys new) × (entries keys new ≡ reverse (entries ks ps))
-  inner_turned n ks keys ps new run ek e =
+  inner_turned n ks keys ps new are_entries ek e =
       subst (λ l. (AreEntries n l new) × (entries l new ≡ reverse (entries ks ps))) (sym ek)
-      (entries_turned n ks ps new run (subst (IsPacked n) (sym e) (packed_turned n ps run.packed)) (ap somes e ∙ somes_turned n ps run.packed))
+      (entries_turned n ks ps new are_entries (subst (IsPacked n) (sym e) (packed_turned n ps are_entries.packed)) (ap somes e ∙ somes_turned n ps are_entries.packed))
 
   -- the last one goes behind the left ones, which are too few
   pub fill_step : (low : ℕ) (ls rs front back xs ys : List X) → low ≤ length ls + length rs → front ++ reverse back ≡ ls ++ reverse rs → length ls ≤ length front → length front < low → xs ≡ take (length back - 1) back → ys ≡ front ++ drop (length back - 1) back

@@ -10,4 +10,4 @@ revised_at key change rows = unwrap_or (option_map (λ v. with_row_at key_of_pai
 
 -- what changes it, after that: as it was where the key isn't there
 abbrev pub spent_at : {V E : Type 0} → ℕ → (E → V → E) → E → List (ℕ × V) → E
-spent_at key spent edit rows = unwrap_or (option_map (spent edit) (value_at key rows)) edit
+spent_at key spent revision rows = unwrap_or (option_map (spent revision) (value_at key rows)) revision

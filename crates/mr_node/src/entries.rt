@@ -77,26 +77,26 @@ pub(crate) fn find_entry_at<V, const GUESSED: bool>(
 }
 
 /// Changes the value in a place of a leaf.
-fn revise_in<V, E: Revise<V>>(values: &mut ArrayVec<V, 32>, place: usize, edit: &mut E)
+fn revise_in<V, E: Revise<V>>(values: &mut ArrayVec<V, 32>, place: usize, revision: &mut E)
     requires { place < length values.old.items }
-    ensures items { IfSome (slice_get values.old.items place) (λ v. values.new.items ≡ slice_set values.old.items place (E.revised edit.old v)) }
-    ensures spent { IfSome (slice_get values.old.items place) (λ v. edit.new ≡ E.spent edit.old v) }
+    ensures items { IfSome (slice_get values.old.items place) (λ v. values.new.items ≡ slice_set values.old.items place (E.revised revision.old v)) }
+    ensures spent { IfSome (slice_get values.old.items place) (λ v. revision.new ≡ E.spent revision.old v) }
 {
-    edit.revise(&mut values.as_mut_slice()[place])
+    revision.revise(&mut values.as_mut_slice()[place])
 }
 
 /// Changes the value at a key of a leaf: false where the key isn't there.
-fn revise_entry<V, E: Revise<V>>(leaf: &mut Leaf<V>, key: u64, edit: &mut E) -> bool
+fn revise_entry<V, E: Revise<V>>(leaf: &mut Leaf<V>, key: u64, revision: &mut E) -> bool
     requires { IsLeaf leaf.old }
-    ensures rows { pairs_of leaf.new ≡ revised_at key (E.revised edit.old) (pairs_of leaf.old) }
+    ensures rows { pairs_of leaf.new ≡ revised_at key (E.revised revision.old) (pairs_of leaf.old) }
     ensures len { length leaf.new.values.items ≡ length leaf.old.values.items }
     ensures leaf { IsLeaf leaf.new }
-    ensures spent { edit.new ≡ spent_at key E.spent edit.old (pairs_of leaf.old) }
+    ensures spent { revision.new ≡ spent_at key E.spent revision.old (pairs_of leaf.old) }
     ensures found { result ≡ is_some (value_at key (pairs_of leaf.old)) }
 {
     match search(leaf, key) {
         Ok(place) => {
-            revise_in(&mut leaf.values, place, edit);
+            revise_in(&mut leaf.values, place, revision);
             true
         }
         Err(_) => false,
@@ -105,15 +105,15 @@ fn revise_entry<V, E: Revise<V>>(leaf: &mut Leaf<V>, key: u64, edit: &mut E) -> 
 
 /// `revise_entry`, in a function of its own.
 #[inline(never)]
-fn revise_far<V, E: Revise<V>>(leaf: &mut Leaf<V>, key: u64, edit: &mut E) -> bool
+fn revise_far<V, E: Revise<V>>(leaf: &mut Leaf<V>, key: u64, revision: &mut E) -> bool
     requires { IsLeaf leaf.old }
-    ensures rows { pairs_of leaf.new ≡ revised_at key (E.revised edit.old) (pairs_of leaf.old) }
+    ensures rows { pairs_of leaf.new ≡ revised_at key (E.revised revision.old) (pairs_of leaf.old) }
     ensures len { length leaf.new.values.items ≡ length leaf.old.values.items }
     ensures leaf { IsLeaf leaf.new }
-    ensures spent { edit.new ≡ spent_at key E.spent edit.old (pairs_of leaf.old) }
+    ensures spent { revision.new ≡ spent_at key E.spent revision.old (pairs_of leaf.old) }
     ensures found { result ≡ is_some (value_at key (pairs_of leaf.old)) }
 {
-    revise_entry(leaf, key, edit)
+    revise_entry(leaf, key, revision)
 }
 
 /// Changes the value at a key of a leaf, looked for at a guess of its place first where `GUESSED`: false where the key
@@ -123,23 +123,23 @@ pub(crate) fn revise_entry_at<V, E: Revise<V>, const GUESSED: bool>(
     leaf: &mut Leaf<V>,
     key: u64,
     guess: usize,
-    edit: &mut E,
+    revision: &mut E,
 ) -> bool
     requires { IsLeaf leaf.old }
-    ensures rows { pairs_of leaf.new ≡ revised_at key (E.revised edit.old) (pairs_of leaf.old) }
+    ensures rows { pairs_of leaf.new ≡ revised_at key (E.revised revision.old) (pairs_of leaf.old) }
     ensures len { length leaf.new.values.items ≡ length leaf.old.values.items }
     ensures leaf { IsLeaf leaf.new }
-    ensures spent { edit.new ≡ spent_at key E.spent edit.old (pairs_of leaf.old) }
+    ensures spent { revision.new ≡ spent_at key E.spent revision.old (pairs_of leaf.old) }
     ensures found { result ≡ is_some (value_at key (pairs_of leaf.old)) }
 {
     if !GUESSED {
-        return revise_entry(leaf, key, edit);
+        return revise_entry(leaf, key, revision);
     }
     if is_at(&leaf.keys, guess, key) {
-        revise_in(&mut leaf.values, guess, edit);
+        revise_in(&mut leaf.values, guess, revision);
         return true;
     }
-    revise_far(leaf, key, edit)
+    revise_far(leaf, key, revision)
 }
 
 /// Puts an entry into a leaf with room, at the place of its key.

@@ -1,5 +1,5 @@
-//! Where a key is to be expected in a dense tree: its keys are 2^`shift` apart, and came in rising order. In other trees
-//! the guess is any number, so whoever uses it looks first whether it is right.
+//! Where a key is to be expected in a dense tree: its keys are 2^`shift` apart, and came in rising order. In other
+//! trees the guess is any number, so whoever uses it looks first whether it is right.
 ghost use Rattle.std.specs.Prelude.{◌≡◌, ℕ, ◌+◌, ◌*◌, ◌/◌, ◌^◌, ◌<◌, ◌≤◌};
 
 use crate::rebalancing::GIVEN_TO;

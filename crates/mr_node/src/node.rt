@@ -117,16 +117,16 @@ impl<V> Node<V> {
         self.find_row::<false>(key, 0, 0)
     }
 
-    /// Finds as `find` does, and quicker in a dense tree: one whose keys are 2^`shift` apart, and came in rising order.
-    /// It looks first where the key is in such a tree.
+    /// Finds as `find` does, quicker in a dense tree, slower in others. The keys of a dense tree are 2^`shift` apart,
+    /// and came in rising order: it looks first where the key is in such a tree.
     pub fn find_by_guess(&self, key: u64, shift: u32) -> Option<&V>
         ensures { option_map (λ r. r.now) result ≡ value_at key self.now.rows }
     {
         self.find_row::<true>(key, shift, self.least())
     }
 
-    /// The value at a key. Where `GUESSED`, it looks first where the key is in a dense tree, of which the node's least
-    /// key is given, or any number.
+    /// The value at a key. Where `GUESSED`, it looks first where a dense tree would have the key; `least` is the node's
+    /// least key, or any number. Else `shift` and `least` are of no matter.
     fn find_row<const GUESSED: bool>(&self, key: u64, shift: u32, least: u64) -> Option<&V>
         ensures { option_map (λ r. r.now) result ≡ value_at key self.now.rows }
     {
@@ -280,24 +280,24 @@ impl<V: Drop> Node<V> {
 
     /// Changes the value at a key where it lies: false where the key isn't there, and then nothing has changed. Looking
     /// is no step.
-    pub fn revise<E: Revise<V>>(&mut self, key: u64, edit: &mut E) -> bool
-        ensures rows { self.new ≡ record self.old { rows = revised_at key (E.revised edit.old) self.old.rows } }
+    pub fn revise<E: Revise<V>>(&mut self, key: u64, revision: &mut E) -> bool
+        ensures rows { self.new ≡ record self.old { rows = revised_at key (E.revised revision.old) self.old.rows } }
         ensures well { IsWell self.new }
-        ensures spent { edit.new ≡ spent_at key E.spent edit.old self.old.rows }
+        ensures spent { revision.new ≡ spent_at key E.spent revision.old self.old.rows }
         ensures found { result ≡ is_some (value_at key self.old.rows) }
     {
-        self.revise_row::<E, false>(key, 0, 0, edit)
+        self.revise_row::<E, false>(key, 0, 0, revision)
     }
 
     /// Revises as `revise` does, and quicker in a dense tree, as `find_by_guess` is.
-    pub fn revise_by_guess<E: Revise<V>>(&mut self, key: u64, shift: u32, edit: &mut E) -> bool
-        ensures rows { self.new ≡ record self.old { rows = revised_at key (E.revised edit.old) self.old.rows } }
+    pub fn revise_by_guess<E: Revise<V>>(&mut self, key: u64, shift: u32, revision: &mut E) -> bool
+        ensures rows { self.new ≡ record self.old { rows = revised_at key (E.revised revision.old) self.old.rows } }
         ensures well { IsWell self.new }
-        ensures spent { edit.new ≡ spent_at key E.spent edit.old self.old.rows }
+        ensures spent { revision.new ≡ spent_at key E.spent revision.old self.old.rows }
         ensures found { result ≡ is_some (value_at key self.old.rows) }
     {
         let least = self.least();
-        self.revise_row::<E, true>(key, shift, least, edit)
+        self.revise_row::<E, true>(key, shift, least, revision)
     }
 
     /// Changes the value at a key, which it looks for as `find_row` does.
@@ -306,16 +306,21 @@ impl<V: Drop> Node<V> {
         key: u64,
         shift: u32,
         least: u64,
-        edit: &mut E,
+        revision: &mut E,
     ) -> bool
-        ensures rows { self.new ≡ record self.old { rows = revised_at key (E.revised edit.old) self.old.rows } }
+        ensures rows { self.new ≡ record self.old { rows = revised_at key (E.revised revision.old) self.old.rows } }
         ensures well { IsWell self.new }
-        ensures spent { edit.new ≡ spent_at key E.spent edit.old self.old.rows }
+        ensures spent { revision.new ≡ spent_at key E.spent revision.old self.old.rows }
         ensures found { result ≡ is_some (value_at key self.old.rows) }
     {
         let rows = rows_before(key, least, shift);
         match &mut self.body {
-            Body::Leaf(leaf) => revise_entry_at::<V, E, GUESSED>(leaf, key, rows as usize, edit),
+            Body::Leaf(leaf) => revise_entry_at::<V, E, GUESSED>(
+                leaf,
+                key,
+                rows as usize,
+                revision,
+            ),
             Body::Inner(inner) => {
                 let guess = child_behind(rows, inner.height);
                 let place = child_place_at::<Box<Node<V>>, GUESSED>(inner, key, guess);
@@ -323,7 +328,7 @@ impl<V: Drop> Node<V> {
                 match &mut inner.children[place] {
                     Some(child) => {
                         let node = &mut *child.node;
-                        node.revise_row::<E, GUESSED>(key, shift, child_least, edit)
+                        node.revise_row::<E, GUESSED>(key, shift, child_least, revision)
                     }
                     None => unreachable!(),
                 }

@@ -105,8 +105,8 @@ fn pair_of<V>(inner: &Inner<Box<Node<V>>>, place: usize) -> usize
     place - 1
 }
 
-/// Rebalances an inner node whose child at `place` may be one short of half full, by evening it out with a neighbour. Four
-/// steps.
+/// Rebalances an inner node whose child at `place` may be one short of half full, by evening it out with a neighbour.
+/// Four steps.
 #[cold]
 #[inline(never)]
 fn rebalance_thin<V: Drop + Default>(

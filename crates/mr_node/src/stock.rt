@@ -49,7 +49,7 @@ impl<V: Drop + Default> Blanks<Node<V>> {
         Ok(stock)
     }
 
-    /// Takes blank nodes until there are `count`. Memory where they can't be had: those that were taken stay.
+    /// Takes blank nodes until there are `count`. `Memory` where they can't be had: those that were taken stay.
     pub fn fill(&mut self, count: usize) -> Result<(), Refusal>
         ensures filled { MatchResult result (λ _. self.new ≡ max self.old count) (λ why. why ≡ Refusal.Memory) }
         ensures short { OnErr result ((self.old ≤ self.new) × (self.new < count)) }
@@ -78,7 +78,7 @@ impl<V: Drop + Default> Blanks<Node<V>> {
         self.boxes.len()
     }
 
-    /// Gives one of the blank nodes.
+    /// Gives one of the blank nodes, of which there has to be one.
     pub fn give(&mut self) -> Box<Node<V>>
         requires { 0 < self.old }
         ensures { self.new + 1 ≡ self.old }

@@ -1,4 +1,5 @@
-//! Looks at up to 16 keys side by side: one level of all descents, then the next, so that their waits for memory overlap.
+//! Looks at up to 16 keys side by side: one level of all descents, then the next, so that their waits for memory
+//! overlap.
 ghost use Rattle.std.specs.Prelude.{◌≡◌, ◌≤◌, [], length, map};
 ghost use Rattle.mr_node.specs.Rows.{value_at};
 ghost use Rattle.mr_subtree.specs.Inside.{HaveSameValues, KeepSameValues};

@@ -158,22 +158,22 @@ impl<V: Drop> SubTree<V> {
 
     /// Changes the value at a key where it lies: false where the key isn't there, and then nothing has changed. Takes
     /// no memory.
-    pub fn revise<E: Revise<V>>(&mut self, key: u64, edit: &mut E) -> bool
-        ensures rows { self.new ≡ record self.old { rows = revised_at key (E.revised edit.old) self.old.rows } }
-        ensures spent { edit.new ≡ spent_at key E.spent edit.old self.old.rows }
+    pub fn revise<E: Revise<V>>(&mut self, key: u64, revision: &mut E) -> bool
+        ensures rows { self.new ≡ record self.old { rows = revised_at key (E.revised revision.old) self.old.rows } }
+        ensures spent { revision.new ≡ spent_at key E.spent revision.old self.old.rows }
         ensures found { result ≡ is_some (value_at key self.old.rows) }
     {
-        self.root.revise(key, edit)
+        self.root.revise(key, revision)
     }
 
     /// Changes the value at a key where it lies, as `revise` does: quicker than that in a dense tree, as `get_by_guess`
     /// is. Takes no memory.
-    pub fn revise_by_guess<E: Revise<V>>(&mut self, key: u64, shift: u32, edit: &mut E) -> bool
-        ensures rows { self.new ≡ record self.old { rows = revised_at key (E.revised edit.old) self.old.rows } }
-        ensures spent { edit.new ≡ spent_at key E.spent edit.old self.old.rows }
+    pub fn revise_by_guess<E: Revise<V>>(&mut self, key: u64, shift: u32, revision: &mut E) -> bool
+        ensures rows { self.new ≡ record self.old { rows = revised_at key (E.revised revision.old) self.old.rows } }
+        ensures spent { revision.new ≡ spent_at key E.spent revision.old self.old.rows }
         ensures found { result ≡ is_some (value_at key self.old.rows) }
     {
-        self.root.revise_by_guess(key, shift, edit)
+        self.root.revise_by_guess(key, shift, revision)
     }
 }
 
@@ -189,9 +189,9 @@ impl<V: Drop + Default> SubTree<V> {
         gone
     }
 
-    /// Puts a row in. Exists where a row with the key is there, Memory where the blank nodes for it can't be had, which
-    /// a tree of less than 32 rows never wants, since it stays as high as it is: then the tree is as it was, and the
-    /// value is handed back. The key is below 18446744073709551614.
+    /// Puts a row in. `Exists` where a row with the key is there, `Memory` where the blank nodes for it can't be had:
+    /// then the tree is as it was, and the value is handed back. A tree of fewer than 32 rows never wants blank nodes,
+    /// since it stays as high as it is. The key has to be below 18446744073709551614.
     pub fn insert(&mut self, key: u64, value: V) -> Result<(), Back<V>>
         requires { key < key_limit }
         ensures answer { IsInserted key value self.old.rows self.new.rows result }

@@ -55,8 +55,8 @@ abbrev pub after_give : ℕ → Side → ℕ → Result (ℕ × ℕ × ℕ) Refu
 after_give p side at (Ok piece) regions = cut p piece.0 side at regions
 after_give p side at (Err why) regions = regions
 
--- of two neighbours, a part and a piece on one side of it: the index of the piece, by that of the first, and the index of
--- the second, by that of the piece (no public clause cites these two)
+-- of two neighbours, a part and a piece on one side of it: the index of the piece, by that of the first, and the index
+-- of the second, by that of the piece (no public clause cites these two)
 abbrev pub piece_index : Side → ℕ → ℕ
 piece_index Low i = i
 piece_index High i = i + 1

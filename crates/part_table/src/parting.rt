@@ -29,7 +29,7 @@ impl Regions {
         Ok((i, told))
     }
 
-    /// Divides the part of which [`Regions::dividing`] told, and the index with it: the regions are those that
+    /// Divides the part at the index `i`, as [`Regions::dividing`] told: the regions are those that
     /// [`Regions::divide`] leaves.
     pub fn divide_at(&mut self, i: usize, at: u64)
         requires { (p : ℕ) × (told : ℕ × ℕ × ℕ) × (position (is_part p) self.old ≡ Some i) × (divide_answer p at self.old ≡ Ok told) }

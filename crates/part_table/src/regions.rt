@@ -162,8 +162,8 @@ impl Regions {
         Ok((i, piece))
     }
 
-    /// Gives away the part's stretch of which [`Regions::giving`] told, and the index with it: the regions are those
-    /// that [`Regions::give`] leaves.
+    /// Gives away a stretch of the part at the index `i`, as [`Regions::giving`] told: the regions are those that
+    /// [`Regions::give`] leaves.
     pub fn give_at(&mut self, i: usize, side: Side, at: u64, piece: (u8, u32, u32))
         requires { (p : ℕ) × (position (is_part p) self.old ≡ Some i) × (give_answer p side at self.old ≡ Ok piece) }
         ensures { (p : ℕ) → position (is_part p) self.old ≡ Some i → self.new ≡ cut p piece.0 side at self.old }

@@ -259,8 +259,8 @@ fn calls_answer_as_events(rt: HostRuntime) {
     assert_eq!(rt; differences, [Ok(None); 2]);
 }
 
-/// Whether the rows of 16 subscribers are copied at once, from one on: their own, and those of an access and of a call of
-/// each.
+/// Whether the rows of 16 subscribers are copied at once, from one on: their own, and those of an access and of a call
+/// of each.
 fn copies_at_once(register: &Register, first: u32) -> [bool; 3] {
     if !register.all_at_home() {
         return [false; 3];

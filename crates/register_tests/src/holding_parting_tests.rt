@@ -37,6 +37,8 @@ fn is_blank(desk: &Desk, slot: u8) -> bool
 fn has_slot_alone(holding: &Holding, slot: u8) -> bool
     ensures { IsTrue result → OwnsAlone holding.now.desk.view slot }
 {
+    // For the prover: the holding's desk owns no slot past the last.
+    holding.rules();
     for other in 0..SLOTS {
         if holding.owns(other) && other != slot {
             return false;

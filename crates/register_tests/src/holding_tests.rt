@@ -406,9 +406,9 @@ fn side_by_side<R: Threads + Sync>(
     desk: Desk,
 ) -> (Worked, Posted)
     requires worker { worker.0.desk.board ≡ board.now }
-    requires beside { (other.desk.board ≡ board.now) × (desk.board ≡ board.now) }
+    requires boards { (other.desk.board ≡ board.now) × (desk.board ≡ board.now) }
     ensures worker { result.0.0.0.desk.board ≡ board.now }
-    ensures beside { (result.1.0.desk.board ≡ board.now) × (result.1.2.board ≡ board.now) }
+    ensures boards { (result.1.0.desk.board ≡ board.now) × (result.1.2.board ≡ board.now) }
 {
     let (holding, piece) = worker;
     thread::join(

@@ -36,7 +36,8 @@ fn has_two_regions(register: &Register) -> bool {
     has_regions(register, &regions)
 }
 
-/// A holding that is out moves a subscriber, and posts; whether the subscriber was moved, and what the posting answered.
+/// A holding that is out moves a subscriber, and posts; whether the subscriber was moved, and what the posting
+/// answered.
 fn works(holding: &mut Holding, board: &Board, s_id: u32) -> (bool, Result<u8, Refusal>)
     requires { holding.old.desk.board ≡ board.now }
     ensures { IsBackWith (Some (owner.Part (record { holding = holding.old; home = false }))) holding.new }

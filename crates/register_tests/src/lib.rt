@@ -1,5 +1,5 @@
-//! Tests of holdings, of the register and of its lender, by public calls alone: what no clause says. They are a crate of
-//! their own, so that none of these libraries is proved a second time with them.
+//! Tests of holdings, of the register and of its lender, by public calls alone: what no clause says. They are a crate
+//! of their own, so that none of these libraries is proved a second time with them.
 #![tactic(auto)]
 
 #[cfg(test)]

@@ -558,8 +558,8 @@ fn words_wear(rt: HostRuntime) -> Result<(), Fail> {
     Ok(())
 }
 
-/// Where a re-cut of three parts to 90 and 100 was refused memory: what it left, and what takes the piece that is loose,
-/// if one is. None where the regions are such as it may not leave.
+/// Where a re-cut of three parts to 90 and 100 was refused memory: what it left, and what takes the piece that is
+/// loose, if one is. None where the regions are such as it may not leave.
 fn left_over(register: &Register) -> Option<(&'static str, Option<Event>)> {
     let untouched = [
         region(Part(0), 1, 41),
@@ -638,8 +638,8 @@ fn left(register: &Register, sub_nbr: Number) -> Left {
     )
 }
 
-/// What a re-cut left that was refused memory in its middle, or that it wasn't; it moves the regions alone. None where it
-/// doesn't.
+/// What a re-cut left that was refused memory in its middle, or that it wasn't; it moves the regions alone. None where
+/// it doesn't.
 fn recut_moves_regions(register: &mut Register) -> Result<Option<&'static str>, Refusal> {
     let mut are_added = true;
     for s_id in [1u64, 40, 41, 60, 84, 85, 99, 100, 127] {

@@ -1,4 +1,4 @@
--- The rules of a book after an edit of one of its tables.
+-- The rules of a book after a change of one of its tables.
 use Rattle.tatp_actions.proofs.Common.{◌≡◌, ℕ, ◌<◌, refl, arith, true, List, Option, Some, None, IsSome, subst, AllByRecursion, key_found, each_found, each-weaker, each-with_row_at, each-with_row_at_same, each-with_row, each-without_row, each_both, ordered-with_row_at, ordered-with_row, ordered-without_row, still_found-with_row_at, still_found-with_row, key_parts, facility_type, forwarding_type, forwarding_ranges, key_of, subscriber_key, access_key, facility_key, forwarding_key, IsOrderedBy, row_at, with_row, SubscriberRow, AccessInfoRow, SpecialFacilityRow, CallForwardingRow, subscriber_in_range, access_in_range, facility_in_range, forwarding_in_range, Book, IsBook, IsRowsOf, IsWithin, subscriber_at, access_at, facility_at, forwarding_at, put_subscriber, put_facility, more_access, more_facilities, more_forwardings, without_forwarding}
 
 -- a book with other subscribers keeps the rules, where those of the subscribers hold and each that was found is found

@@ -1,4 +1,4 @@
--- The counts of the cells after an edit of a table.
+-- The counts of the cells after a change of a table.
 use Rattle.tatp_actions.proofs.Common.{◌≡◌, ◌≢◌, ℕ, ◌+◌, ◌-◌, ◌<◌, ◌==◌, ◌&&◌, refl, arith, Bool, true, false, List, [], nat_lt, Some, None, IsSome, subst, ℤ, pos, ◌+ℤ◌, count_by, nat_tests, ints, sum_by, by_test, each-weaker, sum_by-same, sum_by-with_row_at, sum_by-with_row, sum_by-without_row, row_at-with_row_other, key_of, subscriber_key, access_key, facility_key, forwarding_key, row_at, with_row_at, with_row, without_row, SubscriberRow, AccessInfoRow, SpecialFacilityRow, CallForwardingRow, zone_of, area_of, Book, IsBook, subscriber_at, facility_at, forwarding_at, put_subscriber, more_access, more_facilities, more_forwardings, without_forwarding, covers, has_active_facility, change_at, IsChange, area_moved, subscriber_added, row_moved, AreForwardingNotes, FIRST_AREA, FIRST_ZONE}
 use Rattle.tatp_actions.specs.Cell.{active_forwardings, in_area, in_zone}
 use Rattle.tatp_actions.proofs.HourLemmas.{forwarding_notes-hour, forwarding_notes-area, forwarding_notes-zone}

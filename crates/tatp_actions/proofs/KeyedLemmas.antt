@@ -20,30 +20,30 @@ same_forwardings tables tables1 same others = others ∙ ap (λ (pairs : List (�
 -- a Subscriber row is put in the place of the one with its key
 module _ {h : Heights} (tables tables1 : Tables) (n n1 lo hi width steps k : ℕ) (row : SubscriberRow)
     (at : k ≡ subscriber_key row) (holds : Holds tables n lo hi width steps h)
-    (edit : tables1 ≡ record tables { subscribers = with_row_at key_of_pair k (k, row) tables.subscribers }) where
+    (changed : tables1 ≡ record tables { subscribers = with_row_at key_of_pair k (k, row) tables.subscribers }) where
   pub put_subscriber_book : stored_book tables1 ≡ put_subscriber (stored_book tables) row.s_id row
   put_subscriber_book =
-      ap stored_book edit ∙ book_put_subscriber tables k row holds.1
+      ap stored_book changed ∙ book_put_subscriber tables k row holds.1
       ∙ ap (λ (j : ℕ). record (stored_book tables) { subscribers = with_row_at subscriber_key j row (stored_book tables).subscribers }) at
 
   pub put_subscriber_holds : {h1 : Heights} → subscriber_in_range row ≡ true → Holds tables1 n1 lo hi width steps h1
   put_subscriber_holds in_range =
       changed_holds tables tables1 n n1 lo hi width steps _ put_subscriber_book holds.0 (rules_of_put_subscriber lo hi (stored_book tables) row holds.0.rows in_range)
-      (subst AreKeyed (sym edit) (keyed_put_subscriber tables k row holds.1 at))
+      (subst AreKeyed (sym changed) (keyed_put_subscriber tables k row holds.1 at))
 
 -- a Special_Facility row is put in the place of the one with its key
 module _ {h : Heights} (tables tables1 : Tables) (n n1 lo hi width steps k : ℕ) (row : SpecialFacilityRow)
     (at : k ≡ facility_key row) (holds : Holds tables n lo hi width steps h)
-    (edit : tables1 ≡ record tables { facilities = with_row_at key_of_pair k (k, row) tables.facilities }) where
+    (changed : tables1 ≡ record tables { facilities = with_row_at key_of_pair k (k, row) tables.facilities }) where
   pub put_facility_book : stored_book tables1 ≡ put_facility (stored_book tables) row.s_id row.sf_type row
   put_facility_book =
-      ap stored_book edit ∙ book_put_facility tables k row holds.1
+      ap stored_book changed ∙ book_put_facility tables k row holds.1
       ∙ ap (λ (j : ℕ). record (stored_book tables) { facilities = with_row_at facility_key j row (stored_book tables).facilities }) at
 
   pub put_facility_holds : {h1 : Heights} → facility_in_range row ≡ true → Holds tables1 n1 lo hi width steps h1
   put_facility_holds in_range =
       changed_holds tables tables1 n n1 lo hi width steps _ put_facility_book holds.0 (rules_of_put_facility lo hi (stored_book tables) row holds.0.rows in_range)
-      (subst AreKeyed (sym edit) (keyed_put_facility tables k row holds.1 at))
+      (subst AreKeyed (sym changed) (keyed_put_facility tables k row holds.1 at))
 
 -- a Subscriber row is added
 module _ {h : Heights} (tables tables1 : Tables) (n n1 lo hi width steps k : ℕ) (row : SubscriberRow)
@@ -176,9 +176,9 @@ more_forwardings_refused tables tables1 n lo hi width steps k row why at holds s
 -- a forwarding is taken away
 module _ {h : Heights} (tables tables1 : Tables) (n n1 lo hi width steps k s t u : ℕ) (at : k ≡ key_of s t u)
     (holds : Holds tables n lo hi width steps h)
-    (edit : tables1 ≡ record tables { forwardings = without_row key_of_pair k tables.forwardings }) where
+    (changed : tables1 ≡ record tables { forwardings = without_row key_of_pair k tables.forwardings }) where
   removed_book : stored_book tables1 ≡ without_forwarding (stored_book tables) s t u
-  removed_book = ap stored_book edit ∙ book_without_forwarding tables k (key_of s t u) holds.1 at
+  removed_book = ap stored_book changed ∙ book_without_forwarding tables k (key_of s t u) holds.1 at
 
   pub removed_is : {h1 : Heights} → n1 ≡ once_more n
       → part_of tables1 n1 lo hi width steps h1 ≡ changed_once (part_of tables n lo hi width steps h)
@@ -188,4 +188,4 @@ module _ {h : Heights} (tables tables1 : Tables) (n n1 lo hi width steps k s t u
   pub removed_holds : {h1 : Heights} → Holds tables1 n1 lo hi width steps h1
   removed_holds =
       changed_holds tables tables1 n n1 lo hi width steps _ removed_book holds.0 (rules_of_deletion lo hi (stored_book tables) s t u holds.0.rows)
-      (subst AreKeyed (sym edit) (keyed_without_forwarding tables k holds.1))
+      (subst AreKeyed (sym changed) (keyed_without_forwarding tables k holds.1))

@@ -5,9 +5,9 @@ use Rattle.tatp_actions.proofs.KeyedLemmas.{put_subscriber_book, put_subscriber_
 use Rattle.tatp_actions.proofs.StoredLemmas.{part_of, Holds, found_in}
 
 -- what is spent on a row that is found
-pub spent_found : {X E : Type 0} (key : ℕ) (spent : E → X → E) (edit now : E) (pairs : List (ℕ × X)) (o : Option X) → value_at key pairs ≡ o → now ≡ spent_at key spent edit pairs → IfSome o (λ row. now ≡ spent edit row)
-spent_found key spent edit now pairs None is e = tt
-spent_found key spent edit now pairs (Some row) is e = e ∙ ap (λ o. unwrap_or (option_map (spent edit) o) edit) is
+pub spent_found : {X E : Type 0} (key : ℕ) (spent : E → X → E) (revision now : E) (pairs : List (ℕ × X)) (o : Option X) → value_at key pairs ≡ o → now ≡ spent_at key spent revision pairs → IfSome o (λ row. now ≡ spent revision row)
+spent_found key spent revision now pairs None is e = tt
+spent_found key spent revision now pairs (Some row) is e = e ∙ ap (λ o. unwrap_or (option_map (spent revision) o) revision) is
 
 -- the book with a row changed
 pub revised_subscriber : (book : Book) (s : ℕ) (change : SubscriberRow → SubscriberRow) (o : Option SubscriberRow) → subscriber_at book s ≡ o
@@ -22,12 +22,12 @@ subscriber_there tables k s keyed at = found_in subscriber_key tables.subscriber
 module _ {h : Heights} (tables tables1 : Tables) (n n1 lo hi width steps k s : ℕ)
     (change : SubscriberRow → SubscriberRow) (at : k ≡ key_of s 0 0) (holds : Holds tables n lo hi width steps h)
     (keeps : KeepsSubscriber change)
-    (edit : tables1 ≡ record tables { subscribers = revised_at k change tables.subscribers }) where
+    (revision : tables1 ≡ record tables { subscribers = revised_at k change tables.subscribers }) where
   by_row : {h1 : Heights} (o : Option SubscriberRow) → subscriber_at (stored_book tables) s ≡ o
       → (stored_book tables1 ≡ subscriber_revised (stored_book tables) s change)
       × Holds tables1 n1 lo hi width steps h1
   by_row {h1} None is =
-      let same : tables1 ≡ tables = edit ∙ ap (λ (pairs : List (ℕ × SubscriberRow)). record tables { subscribers = pairs }) (revised_none k change tables.subscribers (subscriber_there tables k s holds.1 at ∙ is)) in
+      let same : tables1 ≡ tables = revision ∙ ap (λ (pairs : List (ℕ × SubscriberRow)). record tables { subscribers = pairs }) (revised_none k change tables.subscribers (subscriber_there tables k s holds.1 at ∙ is)) in
       let rules : IsPart (part_of tables n1 lo hi width steps h1) =
       record { range = holds.0.range; width = holds.0.width; rows = holds.0.rows } in (
         ap stored_book same ∙ sym (revised_subscriber (stored_book tables) s change None is),
@@ -38,7 +38,7 @@ module _ {h : Heights} (tables tables1 : Tables) (n n1 lo hi width steps k s : �
       let own : (change row).s_id ≡ s = keep.0 ∙ s_id_found (stored_book tables) s row is in
       let here : k ≡ subscriber_key (change row) = at ∙ ap (λ (j : ℕ). key_of j 0 0) (sym own) in
       let put : tables1 ≡ record tables { subscribers = with_row_at key_of_pair k (k, change row) tables.subscribers } =
-      edit ∙ ap (λ (pairs : List (ℕ × SubscriberRow)). record tables { subscribers = pairs }) (revised_some k change row tables.subscribers (subscriber_there tables k s holds.1 at ∙ is)) in (
+      revision ∙ ap (λ (pairs : List (ℕ × SubscriberRow)). record tables { subscribers = pairs }) (revised_some k change row tables.subscribers (subscriber_there tables k s holds.1 at ∙ is)) in (
         put_subscriber_book tables tables1 n n1 lo hi width steps k (change row) here holds put
             ∙ ap (λ (j : ℕ). put_subscriber (stored_book tables) j (change row)) own ∙ sym (revised_subscriber (stored_book tables) s change (Some row) is),
         put_subscriber_holds tables tables1 n n1 lo hi width steps k (change row) here holds put keep.1,
@@ -75,12 +75,12 @@ facility_there tables k s t keyed at = found_in facility_key tables.facilities k
 module _ {h : Heights} (tables tables1 : Tables) (n n1 lo hi width steps k s t : ℕ)
     (change : SpecialFacilityRow → SpecialFacilityRow) (at : k ≡ key_of s t 0) (small : t < 256)
     (holds : Holds tables n lo hi width steps h) (keeps : KeepsFacility change)
-    (edit : tables1 ≡ record tables { facilities = revised_at k change tables.facilities }) where
+    (revision : tables1 ≡ record tables { facilities = revised_at k change tables.facilities }) where
   by_facility : {h1 : Heights} (o : Option SpecialFacilityRow) → facility_at (stored_book tables) s t ≡ o
       → (stored_book tables1 ≡ facility_revised (stored_book tables) s t change)
       × Holds tables1 n1 lo hi width steps h1
   by_facility {h1} None is =
-      let same : tables1 ≡ tables = edit ∙ ap (λ (pairs : List (ℕ × SpecialFacilityRow)). record tables { facilities = pairs }) (revised_none k change tables.facilities (facility_there tables k s t holds.1 at ∙ is)) in
+      let same : tables1 ≡ tables = revision ∙ ap (λ (pairs : List (ℕ × SpecialFacilityRow)). record tables { facilities = pairs }) (revised_none k change tables.facilities (facility_there tables k s t holds.1 at ∙ is)) in
       let rules : IsPart (part_of tables n1 lo hi width steps h1) =
       record { range = holds.0.range; width = holds.0.width; rows = holds.0.rows } in (
         ap stored_book same ∙ sym (revised_facility (stored_book tables) s t change None is),
@@ -93,7 +93,7 @@ module _ {h : Heights} (tables tables1 : Tables) (n n1 lo hi width steps k s t :
       let kind : (change row).sf_type ≡ t = keep.1 ∙ parts.1 in
       let here : k ≡ facility_key (change row) = at ∙ ap (λ (j : ℕ). key_of j t 0) (sym own) ∙ ap (λ (j : ℕ). key_of (change row).s_id j 0) (sym kind) in
       let put : tables1 ≡ record tables { facilities = with_row_at key_of_pair k (k, change row) tables.facilities } =
-      edit ∙ ap (λ (pairs : List (ℕ × SpecialFacilityRow)). record tables { facilities = pairs }) (revised_some k change row tables.facilities (facility_there tables k s t holds.1 at ∙ is)) in (
+      revision ∙ ap (λ (pairs : List (ℕ × SpecialFacilityRow)). record tables { facilities = pairs }) (revised_some k change row tables.facilities (facility_there tables k s t holds.1 at ∙ is)) in (
         put_facility_book tables tables1 n n1 lo hi width steps k (change row) here holds put
             ∙ ap (λ (j : ℕ). put_facility (stored_book tables) j (change row).sf_type (change row)) own ∙ ap (λ (j : ℕ). put_facility (stored_book tables) s j (change row)) kind
             ∙ sym (revised_facility (stored_book tables) s t change (Some row) is),

@@ -62,7 +62,7 @@ pub refused_pair : {X : Type 0} (key : X → ℕ) (pairs : List (ℕ × X)) (k k
 refused_pair {X} key pairs k k' why keyed at is =
     is ∙ ap (λ (test : Bool). if test then refusal.Exists else refusal.Memory) (sym (is_there key pairs k keyed) ∙ ap (λ (j : ℕ). is_some (row_at key j (values_of pairs))) at)
 
--- stored pairs after an edit: the book, and that each row stands at its key
+-- stored pairs after a change: the book, and that each row stands at its key
 pub book_put_subscriber : (tables : Tables) (k : ℕ) (row : SubscriberRow) → AreKeyed tables
     → stored_book (record tables { subscribers = with_row_at key_of_pair k (k, row) tables.subscribers }) ≡ record (stored_book tables) { subscribers = with_row_at subscriber_key k row (stored_book tables).subscribers }
 book_put_subscriber tables k row keyed = ap (λ (rows : List SubscriberRow). record (stored_book tables) { subscribers = rows }) (with_row_at-pairs subscriber_key k row tables.subscribers keyed.subscribers)

@@ -78,18 +78,18 @@ impl<R: Rows> Part<R> {
     pub(crate) fn revise_subscriber<E: Revise<Subscriber>>(
         &mut self,
         s_id: u32,
-        edit: &mut E,
+        revision: &mut E,
     ) -> bool
-        requires { KeepsSubscriber (E.revised edit.old) }
+        requires { KeepsSubscriber (E.revised revision.old) }
         ensures found { result ≡ is_some (subscriber_at self.old.book s_id) }
-        ensures spent { IfSome (subscriber_at self.old.book s_id) (λ row. edit.new ≡ E.spent edit.old row) }
-        ensures kept { self.new ≡ changed_to self.old (subscriber_revised self.old.book s_id (E.revised edit.old))
+        ensures spent { IfSome (subscriber_at self.old.book s_id) (λ row. revision.new ≡ E.spent revision.old row) }
+        ensures kept { self.new ≡ changed_to self.old (subscriber_revised self.old.book s_id (E.revised revision.old))
             self.new }
         ensures counted { once_more self.old.asked ≤ self.new.asked }
         ensures asked { self.new.asked ≤ self.old.asked + 2 }
         ensures rules { IsPart self.old }
     {
-        self.rows.revise_s(subscriber_key(s_id), edit)
+        self.rows.revise_s(subscriber_key(s_id), revision)
     }
 
     /// Changes the Special_Facility row of a facility where it lies, into one of the same facility: false where there
@@ -99,18 +99,18 @@ impl<R: Rows> Part<R> {
         &mut self,
         s_id: u32,
         sf_type: u8,
-        edit: &mut E,
+        revision: &mut E,
     ) -> bool
-        requires { KeepsFacility (E.revised edit.old) }
+        requires { KeepsFacility (E.revised revision.old) }
         ensures found { result ≡ is_some (facility_at self.old.book s_id sf_type) }
-        ensures spent { IfSome (facility_at self.old.book s_id sf_type) (λ row. edit.new ≡ E.spent edit.old row) }
-        ensures kept { self.new ≡ changed_to self.old (facility_revised self.old.book s_id sf_type (E.revised edit.old))
+        ensures spent { IfSome (facility_at self.old.book s_id sf_type) (λ row. revision.new ≡ E.spent revision.old row) }
+        ensures kept { self.new ≡ changed_to self.old (facility_revised self.old.book s_id sf_type (E.revised revision.old))
             self.new }
         ensures counted { once_more self.old.asked ≤ self.new.asked }
         ensures asked { self.new.asked ≤ self.old.asked + 2 }
         ensures rules { IsPart self.old }
     {
-        self.rows.revise_f(row_key(s_id, sf_type, 0), edit)
+        self.rows.revise_f(row_key(s_id, sf_type, 0), revision)
     }
 
     /// Adds a Subscriber row of the part's range: `Exists`, `Memory`.

@@ -81,8 +81,8 @@ impl Part {
         self.rows.subscribers.copy_many(keys.as_slice(), rows);
     }
 
-    /// Puts up to 16 Access_Info rows into an empty list, each asked by its s_id and ai_type, in the order in which they
-    /// are asked, `None` where there is none. The rows are looked for side by side.
+    /// Puts up to 16 Access_Info rows into an empty list, each asked by its s_id and ai_type, in the order in which
+    /// they are asked, `None` where there is none. The rows are looked for side by side.
     pub fn copy_access(&self, asked: &[(u32, u8)], rows: &mut ArrayVec<Option<Access>, 16>)
         requires few { length asked.now ≤ 16 }
         requires empty { rows.old.items ≡ [] }
@@ -92,8 +92,8 @@ impl Part {
         self.rows.access.copy_many(keys.as_slice(), rows);
     }
 
-    /// Finds the numbers of the forwardings that start at an hour and take these calls, `None` where none does. Where each
-    /// call starts before the hour, no row is looked for.
+    /// Finds the numbers of the forwardings that start at an hour and take these calls, `None` where none does. Where
+    /// each call starts before the hour, no row is looked for.
     fn hour_numbers(&self, asked: &[(u32, u8, u8, u8)], hour: u8) -> ArrayVec<Option<Number>, 16>
         requires { length asked.now ≤ 16 }
         ensures { result.items ≡ map (λ q. destination q.0 q.1 q.2 q.3 (forwarding_at self.now.book q.0 q.1 hour)) asked.now }
@@ -115,8 +115,8 @@ impl Part {
     }
 
     /// Puts the numbers to which up to 16 calls are forwarded into an empty list, as `destinations` tells them, of each
-    /// call by its s_id, sf_type, start_time and end_time, in the order in which they are asked. The rows are looked for
-    /// side by side.
+    /// call by its s_id, sf_type, start_time and end_time, in the order in which they are asked. The rows are looked
+    /// for side by side.
     pub fn copy_destinations(
         &self,
         asked: &[(u32, u8, u8, u8)],

@@ -77,7 +77,8 @@ fn answered(done: Result<Change, Refusal>) -> (RowReply, Change)
 }
 
 impl<R: Rows> Part<R> {
-    /// Makes a part over rows that lie in its range and keep the rules of a book. It keeps the allocator.
+    /// Makes a part over rows that lie in its range and keep the rules of a book. It keeps the allocator. The range has
+    /// to be 1 <= lo < hi <= 16,777,217, the zones' width 1..=524,288.
     pub fn over(alloc: Global, rows: R, lo: u32, hi: u32, width: u32) -> Self
         requires range { IsRange lo hi }
         requires width { IsWidth width }
@@ -188,7 +189,8 @@ impl<R: Rows> Part<R> {
 }
 
 impl Part {
-    /// Makes an empty part of the range lo..hi. Its empty trees take no memory, so this is always `Ok`.
+    /// Makes an empty part of the range lo..hi, with 1 <= lo < hi <= 16,777,217 and a width of 1..=524,288. Its empty
+    /// trees take no memory, so this is always `Ok`.
     pub fn new(alloc: Global, lo: u32, hi: u32, width: u32) -> Result<Self, Refusal>
         requires range { IsRange lo hi }
         requires width { IsWidth width }

@@ -46,9 +46,9 @@ pub trait Rows {
 
     /// Changes the Subscriber row at a key where it lies: false where there is none. It may ask twice, as `get_s` and
     /// `replace_s` do in its place.
-    fn revise_s<E: Revise<Subscriber>>(&mut self, key: u64, edit: &mut E) -> bool
-        ensures rows { tables self.new ≡ record (tables self.old) { subscribers = revised_at key (E.revised edit.old) (tables self.old).subscribers } }
-        ensures spent { edit.new ≡ spent_at key E.spent edit.old (tables self.old).subscribers }
+    fn revise_s<E: Revise<Subscriber>>(&mut self, key: u64, revision: &mut E) -> bool
+        ensures rows { tables self.new ≡ record (tables self.old) { subscribers = revised_at key (E.revised revision.old) (tables self.old).subscribers } }
+        ensures spent { revision.new ≡ spent_at key E.spent revision.old (tables self.old).subscribers }
         ensures found { result ≡ is_some (value_at key (tables self.old).subscribers) }
         ensures counted { once_more (times_asked self.old) ≤ times_asked self.new }
         ensures asked { times_asked self.new ≤ times_asked self.old + 2 }
@@ -56,7 +56,7 @@ pub trait Rows {
         let Some(mut row) = self.get_s(key).copied() else {
             return false;
         };
-        edit.revise(&mut row);
+        revision.revise(&mut row);
         let _ = self.replace_s(key, row);
         true
     }
@@ -118,9 +118,9 @@ pub trait Rows {
 
     /// Changes the Special_Facility row at a key where it lies: false where there is none. It may ask twice, as `get_f`
     /// and `replace_f` do in its place.
-    fn revise_f<E: Revise<Facility>>(&mut self, key: u64, edit: &mut E) -> bool
-        ensures rows { tables self.new ≡ record (tables self.old) { facilities = revised_at key (E.revised edit.old) (tables self.old).facilities } }
-        ensures spent { edit.new ≡ spent_at key E.spent edit.old (tables self.old).facilities }
+    fn revise_f<E: Revise<Facility>>(&mut self, key: u64, revision: &mut E) -> bool
+        ensures rows { tables self.new ≡ record (tables self.old) { facilities = revised_at key (E.revised revision.old) (tables self.old).facilities } }
+        ensures spent { revision.new ≡ spent_at key E.spent revision.old (tables self.old).facilities }
         ensures found { result ≡ is_some (value_at key (tables self.old).facilities) }
         ensures counted { once_more (times_asked self.old) ≤ times_asked self.new }
         ensures asked { times_asked self.new ≤ times_asked self.old + 2 }
@@ -128,7 +128,7 @@ pub trait Rows {
         let Some(mut row) = self.get_f(key).copied() else {
             return false;
         };
-        edit.revise(&mut row);
+        revision.revise(&mut row);
         let _ = self.replace_f(key, row);
         true
     }

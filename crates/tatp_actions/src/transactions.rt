@@ -17,7 +17,7 @@ use std::num::NonZeroU32;
 use tatp_rows::{Forwarding, Refusal, is_between, is_start_time};
 
 impl<R: Rows> Part<R> {
-    /// GET_SUBSCRIBER_DATA: `NoSubscriber`.
+    /// Does GET_SUBSCRIBER_DATA: `NoSubscriber`.
     pub(crate) fn subscriber_data(&mut self, s_id: u32) -> (RowReply, Change)
         requires { IsWithin self.old.lo self.old.hi s_id }
         ensures { Acts (Action.SubscriberData s_id) self.old result.0 result.1 self.new }
@@ -28,7 +28,7 @@ impl<R: Rows> Part<R> {
         (RowReply::Row(row), Change::none())
     }
 
-    /// GET_NEW_DESTINATION: `Field`, `NoDestination`.
+    /// Does GET_NEW_DESTINATION: `Field`, `NoDestination`.
     pub(crate) fn new_destination(
         &mut self,
         s_id: u32,
@@ -54,7 +54,7 @@ impl<R: Rows> Part<R> {
         (RowReply::Numbers(numbers), Change::none())
     }
 
-    /// GET_ACCESS_DATA: `Field`, `NoAccess`.
+    /// Does GET_ACCESS_DATA: `Field`, `NoAccess`.
     pub(crate) fn access_data(&mut self, s_id: u32, ai_type: u8) -> (RowReply, Change)
         requires { IsWithin self.old.lo self.old.hi s_id }
         ensures { Acts (Action.AccessData s_id ai_type) self.old result.0 result.1 self.new }
@@ -74,7 +74,7 @@ impl<R: Rows> Part<R> {
         (reply, Change::none())
     }
 
-    /// UPDATE_SUBSCRIBER_DATA: `Field`, `NoSubscriber`, `NoFacility`.
+    /// Does UPDATE_SUBSCRIBER_DATA: `Field`, `NoSubscriber`, `NoFacility`.
     #[inline(always)]
     pub(crate) fn update_subscriber(
         &mut self,

@@ -90,9 +90,9 @@ impl Rows for Trees {
         self.subscribers.replace(key, value)
     }
 
-    fn revise_s<E: Revise<Subscriber>>(&mut self, key: u64, edit: &mut E) -> bool {
+    fn revise_s<E: Revise<Subscriber>>(&mut self, key: u64, revision: &mut E) -> bool {
         self.ask();
-        self.subscribers.revise_by_guess(key, KEY_SHIFT, edit)
+        self.subscribers.revise_by_guess(key, KEY_SHIFT, revision)
     }
 
     fn insert_s(&mut self, key: u64, value: Subscriber) -> Result<(), Back<Subscriber>> {
@@ -135,9 +135,9 @@ impl Rows for Trees {
         self.facilities.replace(key, value)
     }
 
-    fn revise_f<E: Revise<Facility>>(&mut self, key: u64, edit: &mut E) -> bool {
+    fn revise_f<E: Revise<Facility>>(&mut self, key: u64, revision: &mut E) -> bool {
         self.ask();
-        self.facilities.revise(key, edit)
+        self.facilities.revise(key, revision)
     }
 
     fn insert_f(&mut self, key: u64, value: Facility) -> Result<(), Back<Facility>> {

@@ -1,5 +1,5 @@
-//! What tests of several crates share: rows, registers and calls of them, and numbers that look random. A call costs what
-//! the register's call costs, and one test more. No code but that of tests may use it.
+//! What tests of several crates share: rows, registers and calls of them, and numbers that look random. A call costs
+//! what the register's call costs, and one test more. No code but that of tests may use it.
 #![tactic(auto)]
 
 mod calls;

@@ -113,7 +113,8 @@ fn expect_numbers(
 }
 
 // Also run with each allocation refused in turn, and with all refused once the pairs stand (`refuse_memory.sh`): the
-// pairs split leaves under a root, a root grows to height 2, and the last leaf is full, so that the new number splits it.
+// pairs split leaves under a root, a root grows to height 2, and the last leaf is full, so that the new number splits
+// it.
 #[test]
 fn numbers_each_and_all_refused_2(rt: HostRuntime) -> Result<(), Fail> {
     let mut index = NumberIndex::new(rt.alloc()).expect(&rt, "an index");

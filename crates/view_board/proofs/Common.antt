@@ -16,7 +16,7 @@ pub use Rattle.atomic_table.proofs.Lists.{at_set}
 pub use Rattle.atomic_table.specs.Table.{Allows, Final, Joins, Me, Seen, Splits, State, keeps, step}
 pub use Rattle.tatp_rows.proofs.BlankLemmas.{blank_at}
 pub use Rattle.tatp_rows.proofs.OrderedLemmas.{by_test}
-pub use Rattle.view_board.specs.Desks.{Agrees, Station}
+pub use Rattle.view_board.specs.Desks.{Agrees, DeskState}
 pub use Rattle.view_board.specs.Inside.{AreWithin, wanting}
 pub use Rattle.view_board.specs.Nets.{NetAdds, NetMoves, net_from, net_of}
 pub use Rattle.view_board.specs.Rule.{Fits, IsCheckStep, IsLookStep, IsRaiseStep, IsRuled}

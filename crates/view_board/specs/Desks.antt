@@ -7,16 +7,16 @@ use Rattle.view_board.specs.Views.{IsWide}
 use Rattle.view_board.specs.Words.{AreSmall}
 
 -- a desk: its board, and what it knows
-pub record Station : Type 0 where
+pub record DeskState : Type 0 where
   pub board : TableId
   pub view : View
 
 -- the same desk, which knows something else
-abbrev pub with_view : Station → View → Station
+abbrev pub with_view : DeskState → View → DeskState
 with_view desk v = record desk { view = v }
 
--- the flags and numbers that a desk stores are those of its view, and no number passes the limit. At words of others the
--- numbers are left from before
+-- the flags and numbers that a desk stores are those of its view, and no number passes the limit. At words of others
+-- the numbers are left from before
 pub record Agrees (me : Me (Unit {0}) View) (flags : List Bool) (stored : List ℕ) : Type 0 where
   pub owned : me.0.owned ≡ flags
   pub numbers : me.0.numbers ≡ stored

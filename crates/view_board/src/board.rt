@@ -59,9 +59,9 @@ impl Board {
         Ok((Board { table, alloc }, desk))
     }
 
-    /// Raises the plus-word of an own slot and a cell below `CELLS` by a positive amount, or its minus-word by the size of a
-    /// negative one, in one step, so that no look sees a part of the amount; an amount of 0 raises nothing, in no step.
-    /// `Worn` exactly where the word would pass `LIMIT`, as by the least `i64` always: then nothing is changed.
+    /// Raises the plus-word of an own slot and a cell below `CELLS` by a positive amount, or its minus-word by the size
+    /// of a negative one, in one step, so that no look sees a part of the amount; an amount of 0 raises nothing, in no
+    /// step. `Worn` exactly where the word would pass `LIMIT`, as by the least `i64` always: then nothing is changed.
     pub fn add(&self, desk: &mut Desk, slot: u8, cell: u8, amount: i64) -> Result<(), Refusal>
         requires board { desk.old.board ≡ self.now }
         requires own { Owns desk.old.view slot }

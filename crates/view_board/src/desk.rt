@@ -19,9 +19,9 @@ pub struct Desk {
 }
 
 impl Model for Desk {
-    ghost use Rattle.view_board.specs.Desks.{Station, Agrees};
+    ghost use Rattle.view_board.specs.Desks.{DeskState, Agrees};
 
-    ghost Value = { Station };
+    ghost Value = { DeskState };
 
     ghost view = { λ d. record { board = d.seat.table_id; view = d.seat.me.0 } };
 

@@ -1,5 +1,5 @@
-//! Drawn events while 1 to 16 parts are out, beside a register that lends none: an event is refused with `AWAY` only where
-//! a part on which it works is out.
+//! Drawn events while 1 to 16 parts are out, beside a register that lends none: an event is refused with `AWAY` only
+//! where a part on which it works is out.
 use super::drawn::{Answer, Asked, Draws, called, wanted, wrote};
 use super::lent::let_go;
 use super::{NO_ACCESS, NO_NUMBERS, NO_ROW, closed, opened};
@@ -254,8 +254,8 @@ fn is_known(answer: &Answer) -> bool {
     matches!(answer, Answer::Code(2 | 4 | 11..=16 | 22))
 }
 
-/// What is answered to an event that a register refuses with `AWAY`, for some parts: by the only one, where its owner has
-/// it, else by the register, once they are at home.
+/// What is answered to an event that a register refuses with `AWAY`, for some parts: by the only one, where its owner
+/// has it, else by the register, once they are at home.
 fn answer_away(
     alloc: Global,
     handle: &mut Hlr,

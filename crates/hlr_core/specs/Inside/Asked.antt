@@ -55,10 +55,6 @@ IsRowStepWhileOut fits wanted before answer after =
     (holdings : List HoldingState) → AreLater before.owners (with_outs before.owners holdings)
     → IsRowStep fits wanted (store_in (register_with before holdings)) answer (store_in (register_with after holdings))
 
--- a right step of an event that names its subscriber
-abbrev pub IsActionStep : Action → Store → Reply → Store → Type 0
-IsActionStep act before answer after = IsRowStep (is_in_range act) (Some act) before answer after
-
 -- the action that an edit asks for, which is an action by way of its type
 abbrev pub action_asked : {E : Type 0} → (E → Action) → Result E Refusal → Result Action Refusal
 action_asked action (Ok edit) = Ok (action edit)

@@ -1,30 +1,31 @@
-use Rattle.mr_cut.proofs.Common.{rules, arith, ◌+◌, ◌*◌, ◌≤◌, sym, subst, ap, IsCut}
+use Rattle.mr_cut.proofs.Common.{rules, arith, ◌+◌, ◌*◌, ◌≤◌, sym, subst, ap, Seen, IsCut}
 use Rattle.mr_cut.proofs.CutLemmas.{both_meters, cut_rows}
+use Rattle.mr_cut.proofs.trees.slice_into.Goals.{After-put_root-2}
 use Rattle.mr_cut.proofs.trees.slice_into.Goals as goal
 
+-- the trees that stand in the places of both are the cut of the whole one
+whole_cut : (g : _) (c : After-put_root-2 g) → IsCut c.args.key c.args.tree.now c.put_root.new.place c.put_root-2.new.place
+whole_cut g c =
+    let at = λ (whole low high : Seen _). IsCut c.args.key whole low high in
+    subst (λ s. at s c.put_root.new.place c.put_root-2.new.place) c.take_root-root.ensures.root
+    (subst (λ s. at c.take_root-root.result.value s c.put_root-2.new.place) (sym c.put_root.ensures)
+    (subst (λ s. at c.take_root-root.result.value c.cut-below.result.0.value s) (sym c.put_root-2.ensures) c.cut-below.ensures.cut))
+
 pub returns-clause-low : goal.returns-clause-low
-returns-clause-low g c =
-    let whole = c.take_root-root.ensures.root in
-    let low = c.put_root.ensures in
-    let high = c.put_root-2.ensures in
-    let cut = subst (λ s. IsCut c.args.key s c.put_root.new.place c.put_root-2.new.place) whole (subst (λ s. IsCut c.args.key c.take_root-root.result.value s c.put_root-2.new.place) (sym low) (subst (λ s. IsCut c.args.key c.take_root-root.result.value c.cut-below.result.0.value s) (sym high) c.cut-below.ensures.cut)) in
-    (cut_rows c.args.key c.args.tree.now c.put_root.new.place c.put_root-2.new.place cut).0
+returns-clause-low g c = (cut_rows c.args.key _ _ _ (whole_cut g (goal.at.returns-clause-low g c).After-put_root-2)).0
 
 pub returns-clause-high : goal.returns-clause-high
-returns-clause-high g c =
-    let whole = c.take_root-root.ensures.root in
-    let low = c.put_root.ensures in
-    let high = c.put_root-2.ensures in
-    let cut = subst (λ s. IsCut c.args.key s c.put_root.new.place c.put_root-2.new.place) whole (subst (λ s. IsCut c.args.key c.take_root-root.result.value s c.put_root-2.new.place) (sym low) (subst (λ s. IsCut c.args.key c.take_root-root.result.value c.cut-below.result.0.value s) (sym high) c.cut-below.ensures.cut)) in
-    (cut_rows c.args.key c.args.tree.now c.put_root.new.place c.put_root-2.new.place cut).1
+returns-clause-high g c = (cut_rows c.args.key _ _ _ (whole_cut g (goal.at.returns-clause-high g c).After-put_root-2)).1
 
-pub returns-clause-cut : goal.returns-clause-cut
-returns-clause-cut g c =
-    let whole = c.take_root-root.ensures.root in
-    let low = c.put_root.ensures in
-    let high = c.put_root-2.ensures in
-    let cut = subst (λ s. IsCut c.args.key s c.put_root.new.place c.put_root-2.new.place) whole (subst (λ s. IsCut c.args.key c.take_root-root.result.value s c.put_root-2.new.place) (sym low) (subst (λ s. IsCut c.args.key c.take_root-root.result.value c.cut-below.result.0.value s) (sym high) c.cut-below.ensures.cut)) in
-    cut
+pub returns-clause-apart : goal.returns-clause-apart
+returns-clause-apart g c =
+    let cut = whole_cut g (goal.at.returns-clause-apart g c).After-put_root-2 in
+    (c.args.key, cut.below, cut.from)
+
+pub returns-clause-heights : goal.returns-clause-heights
+returns-clause-heights g c =
+    let cut = whole_cut g (goal.at.returns-clause-heights g c).After-put_root-2 in
+    (cut.low_height, cut.high_height)
 
 pub returns-clause-path : goal.returns-clause-path
 returns-clause-path g c =

@@ -19,22 +19,22 @@ revise_in-requires g c =
 pub returns-then-is_at-clause-rows : goal.returns-then-is_at-clause-rows
 returns-then-is_at-clause-rows g c =
     let here = there g (goal.at.returns-then-is_at-clause-rows g c).Then-is_at in
-    (leaf_revised c.args.key c.args.guess (g.E.Revise.revised c.args.edit.now) c.args.leaf.now _ c.requires here refl c.revise_in.ensures.items).1
+    (leaf_revised c.args.key c.args.guess (g.E.Revise.revised c.args.revision.now) c.args.leaf.now _ c.requires here refl c.revise_in.ensures.items).1
 
 pub returns-then-is_at-clause-len : goal.returns-then-is_at-clause-len
 returns-then-is_at-clause-len g c =
     let here = there g (goal.at.returns-then-is_at-clause-len g c).Then-is_at in
-    (leaf_revised c.args.key c.args.guess (g.E.Revise.revised c.args.edit.now) c.args.leaf.now _ c.requires here refl c.revise_in.ensures.items).2
+    (leaf_revised c.args.key c.args.guess (g.E.Revise.revised c.args.revision.now) c.args.leaf.now _ c.requires here refl c.revise_in.ensures.items).2
 
 pub returns-then-is_at-clause-leaf : goal.returns-then-is_at-clause-leaf
 returns-then-is_at-clause-leaf g c =
     let here = there g (goal.at.returns-then-is_at-clause-leaf g c).Then-is_at in
-    (leaf_revised c.args.key c.args.guess (g.E.Revise.revised c.args.edit.now) c.args.leaf.now _ c.requires here refl c.revise_in.ensures.items).0
+    (leaf_revised c.args.key c.args.guess (g.E.Revise.revised c.args.revision.now) c.args.leaf.now _ c.requires here refl c.revise_in.ensures.items).0
 
 pub returns-then-is_at-clause-spent : goal.returns-then-is_at-clause-spent
 returns-then-is_at-clause-spent g c =
     let here = there g (goal.at.returns-then-is_at-clause-spent g c).Then-is_at in
-    leaf_spent c.args.key c.args.guess g.E.Revise.spent c.args.edit.now c.revise_in.new.edit c.args.leaf.now c.requires here c.revise_in.ensures.spent
+    leaf_spent c.args.key c.args.guess g.E.Revise.spent c.args.revision.now c.revise_in.new.revision c.args.leaf.now c.requires here c.revise_in.ensures.spent
 
 pub returns-then-is_at-clause-found : goal.returns-then-is_at-clause-found
 returns-then-is_at-clause-found g c =

@@ -1,4 +1,4 @@
-use Rattle.mr_node.proofs.Common.{rules, arith, ◌≡◌, ◌+◌, ◌++◌, [], ◌∷◌, take, length, length-append, ap, ◌∙◌, pairs_of, zip}
+use Rattle.mr_node.proofs.Common.{rules, arith, ◌≡◌, ◌++◌, [], ◌∷◌, take, length, length-append, ap, ◌∙◌, pairs_of, zip}
 use Rattle.mr_node.proofs.FrontLemmas.{front_moved, rest_next}
 use Rattle.mr_node.proofs.entry_lists.move_front.Goals as goal
 

@@ -2,7 +2,7 @@ use Rattle.mr_node.proofs.Common.{rules, arith, ◌+◌, ◌-◌, NodeChild, chi
 use Rattle.mr_node.proofs.PlaceLemmas.{packed_some}
 use Rattle.mr_node.proofs.ChildLemmas.{IsCutAt, child_at, cut_child}
 use Rattle.mr_node.proofs.NodeLemmas.{children_rise, children_below}
-use Rattle.mr_node.proofs.CutLemmas.{IsReadAs, room_found, same_alone, full_width, parted_next, parted_same, parted_low, parted_high}
+use Rattle.mr_node.proofs.CutLemmas.{IsReadAs, room_found, same_alone, full_width, split_next, split_same, split_low, split_high}
 use Rattle.mr_node.proofs.rebalancing.make_room.Goals.{After-share_or_split-low}
 use Rattle.mr_node.proofs.rebalancing.make_room.Goals as goal
 
@@ -35,22 +35,22 @@ cut g c =
     (child_at b i some.0, cut_child c.args.key i b some.0 c.requires.inner c.child_place-place.ensures some.1)
 
 next : (g : _) (c : After-share_or_split-low g) → IsReadAs (c.share_or_split-low.result + 1) c.share_or_split-low.new.inner c.share_or_split-low.ensures.split.high
-next g c = parted_next c.share_or_split-low.result c.child_place-place.result c.args.inner.now c.share_or_split-low.new.inner c.share_or_split-low.ensures.place c.child_place-place.ensures.within c.requires.inner c.share_or_split-low.ensures.split
+next g c = split_next c.share_or_split-low.result c.child_place-place.result c.args.inner.now c.share_or_split-low.new.inner c.share_or_split-low.ensures.place c.child_place-place.ensures.within c.requires.inner c.share_or_split-low.ensures.split
 
 pub returns-then-inner-low-clause-same : goal.returns-then-inner-low-clause-same
-returns-then-inner-low-clause-same g c = parted_same c.share_or_split-low.result (c.child_place-place.result + 1) c.args.inner.now c.share_or_split-low.new.inner c.requires.inner c.share_or_split-low.ensures.split
+returns-then-inner-low-clause-same g c = split_same c.share_or_split-low.result (c.child_place-place.result + 1) c.args.inner.now c.share_or_split-low.new.inner c.requires.inner c.share_or_split-low.ensures.split
 
 pub returns-then-inner-low-clause-place : goal.returns-then-inner-low-clause-place
 returns-then-inner-low-clause-place g c =
     let at = (goal.at.returns-then-inner-low-clause-place g c).After-share_or_split-low in
     let child = cut g at in
-    parted_high c.share_or_split-low.result c.child_place-place.result c.args.inner.now c.share_or_split-low.new.inner c.args.key child.0 c.share_or_split-low.ensures.place c.child_place-place.ensures.within c.requires.inner child.1 c.share_or_split-low.ensures.split (omega (arith, (next g at).least, c.if-inner-low.true))
+    split_high c.share_or_split-low.result c.child_place-place.result c.args.inner.now c.share_or_split-low.new.inner c.args.key child.0 c.share_or_split-low.ensures.place c.child_place-place.ensures.within c.requires.inner child.1 c.share_or_split-low.ensures.split (omega (arith, (next g at).least, c.if-inner-low.true))
 
 pub returns-clause-same : goal.returns-clause-same
-returns-clause-same g c = parted_same c.share_or_split-low.result (c.child_place-place.result + 1) c.args.inner.now c.share_or_split-low.new.inner c.requires.inner c.share_or_split-low.ensures.split
+returns-clause-same g c = split_same c.share_or_split-low.result (c.child_place-place.result + 1) c.args.inner.now c.share_or_split-low.new.inner c.requires.inner c.share_or_split-low.ensures.split
 
 pub returns-clause-place : goal.returns-clause-place
 returns-clause-place g c =
     let at = (goal.at.returns-clause-place g c).After-share_or_split-low in
     let child = cut g at in
-    parted_low c.share_or_split-low.result c.child_place-place.result c.args.inner.now c.share_or_split-low.new.inner c.args.key child.0 c.share_or_split-low.ensures.place c.child_place-place.ensures.within c.requires.inner child.1 c.share_or_split-low.ensures.split (omega (arith, (next g at).least, c.if-inner-low.false))
+    split_low c.share_or_split-low.result c.child_place-place.result c.args.inner.now c.share_or_split-low.new.inner c.args.key child.0 c.share_or_split-low.ensures.place c.child_place-place.ensures.within c.requires.inner child.1 c.share_or_split-low.ensures.split (omega (arith, (next g at).least, c.if-inner-low.false))

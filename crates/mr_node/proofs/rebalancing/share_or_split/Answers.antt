@@ -1,5 +1,5 @@
 use Rattle.mr_node.proofs.Common.{rules, arith, ◌+◌, ◌-◌, ◌≡◌, GIVEN_TO}
-use Rattle.mr_node.proofs.RebalanceLemmas.{IsGiving, giving_at, loosened, parted_given}
+use Rattle.mr_node.proofs.RebalanceLemmas.{IsGiving, giving_at, loosened, split_given}
 use Rattle.mr_node.proofs.rebalancing.share_or_split.Goals.{Then-child_width-le-GIVEN_FROM}
 use Rattle.mr_node.proofs.rebalancing.share_or_split.Goals as goal
 
@@ -17,7 +17,7 @@ share_pair-requires g c =
 pub returns-then-child_width-le-GIVEN_FROM-clause-split : goal.returns-then-child_width-le-GIVEN_FROM-clause-split
 returns-then-child_width-le-GIVEN_FROM-clause-split g c =
     let given = giving g (goal.at.returns-then-child_width-le-GIVEN_FROM-clause-split g c).Then-child_width-le-GIVEN_FROM in
-    parted_given c.args.place (c.args.place - 1) GIVEN_TO c.share_pair.result c.args.inner.now c.share_pair.new.inner given.0 (omega arith) c.requires.inner given.1 c.share_pair.ensures.pair
+    split_given c.args.place (c.args.place - 1) GIVEN_TO c.share_pair.result c.args.inner.now c.share_pair.new.inner given.0 (omega arith) c.requires.inner given.1 c.share_pair.ensures.pair
 
 pub returns-then-child_width-le-GIVEN_FROM-clause-made : goal.returns-then-child_width-le-GIVEN_FROM-clause-made
 returns-then-child_width-le-GIVEN_FROM-clause-made g c = record { given = 1; each = omega arith; no_fewer = omega (arith, c.share_pair.ensures.steps); no_more = omega (arith, c.share_pair.ensures.steps) }

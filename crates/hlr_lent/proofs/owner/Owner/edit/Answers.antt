@@ -1,4 +1,4 @@
-use Rattle.hlr_lent.proofs.Common.{◌∙◌, ap, refl, sent, done_reply, Station, HoldingState, Act, IsActed, reply_of}
+use Rattle.hlr_lent.proofs.Common.{◌∙◌, ap, refl, sent, done_reply, DeskState, HoldingState, Act, IsActed, reply_of}
 use Rattle.hlr_lent.proofs.JobLemmas.{one_more}
 use Rattle.hlr_lent.proofs.owner.Owner.edit.Goals as goal
 
@@ -9,7 +9,7 @@ invariant_of-self g c =
     let reply = reply_of (done_reply c.edit.result) in
     let acted : IsActed act c.deref_mut.result.now reply c.edit.new.self =
     record { rows = done_reply c.edit.result; outcome = did.outcome; answered = refl; range = did.range; desk = did.desk; rules = did.after } in (
-      ap (λ (d : Station). d.board) did.desk.0 ∙ ap (λ (k : HoldingState). k.desk.board) c.deref_mut.ensures.value ∙ c.self.invariant.0,
+      ap (λ (d : DeskState). d.board) did.desk.0 ∙ ap (λ (k : HoldingState). k.desk.board) c.deref_mut.ensures.value ∙ c.self.invariant.0,
       c.self.invariant.1,
       one_more (sent c.self.inside.ring) c.self.inside.holding.value c.edit.new.self (Act act) reply c.self.invariant.2 c.requires.number (rw c.deref_mut.ensures.value at acted),
     )

@@ -11,7 +11,7 @@ delta_of-requires c =
     let got = c.get.ensures in
     omega (arith, ints)
 
-pub returns-clause-value : goal.returns-clause-value
-returns-clause-value c =
+pub returns : goal.returns
+returns c =
     let fits : FitsSigned w64 c.delta_of.result = search rules in
     rw (← c.self.view_is) (to_z-of_z w64 c.delta_of.result fits ∙ c.delta_of.ensures ∙ ap pos c.get.ensures ∙ sym (counts_pending c.self.inside.pending c.args.cell))

@@ -19,8 +19,8 @@ got : (g : _) (t : _) (c : In-Some g t) → IsInner c.in-Inner.inner → get_or 
 got g t c inner = got_used c.in-Inner.inner.len c.child_place_at-place.result _ c.in-Some.child c.in-Inner.inner.children inner.entries.packed c.child_place_at-place.ensures.within c.in-Some.is
 
 -- the node with the value changed in that child
-revised : (g : _) (t : _) (c : After-revise_row g t) → IsInner c.in-Inner.inner → get_or c.in-Inner.inner.children c.child_place_at-place.result None ≡ Some c.in-Some.child → IsRevisedIn c.args.key c.child_place_at-place.result (g.E.Revise.revised c.args.edit.now) c.in-Inner.inner c.in-Some.child c.revise_row.new.self
-revised g t c inner is = revised_inner c.args.key c.child_place_at-place.result (g.E.Revise.revised c.args.edit.now) c.in-Inner.inner c.in-Some.child c.deref_mut-node.result.now c.revise_row.new.self inner c.child_place_at-place.ensures is c.revise_row.ensures.rows c.deref_mut-node.ensures.value c.revise_row.ensures.well
+revised : (g : _) (t : _) (c : After-revise_row g t) → IsInner c.in-Inner.inner → get_or c.in-Inner.inner.children c.child_place_at-place.result None ≡ Some c.in-Some.child → IsRevisedIn c.args.key c.child_place_at-place.result (g.E.Revise.revised c.args.revision.now) c.in-Inner.inner c.in-Some.child c.revise_row.new.self
+revised g t c inner is = revised_inner c.args.key c.child_place_at-place.result (g.E.Revise.revised c.args.revision.now) c.in-Inner.inner c.in-Some.child c.deref_mut-node.result.now c.revise_row.new.self inner c.child_place_at-place.ensures is c.revise_row.ensures.rows c.deref_mut-node.ensures.value c.revise_row.ensures.well
 
 pub child_place_at-place-requires : goal.child_place_at-place-requires
 child_place_at-place-requires g t c =
@@ -39,7 +39,7 @@ invariant_of-self-in-Inner g t c =
     (revised g t at.After-revise_row inner (got g t at.In-Some inner)).whole
 
 pub returns-in-Leaf-clause-rows : goal.returns-in-Leaf-clause-rows
-returns-in-Leaf-clause-rows g t c = leaf_with c.args.self.now c.in-Leaf.leaf c.revise_entry_at.new.leaf (revised_at c.args.key (g.E.Revise.revised c.args.edit.now)) (sym c.self.view_is ∙ ap seen c.in-Leaf.is) c.revise_entry_at.ensures.len c.revise_entry_at.ensures.rows
+returns-in-Leaf-clause-rows g t c = leaf_with c.args.self.now c.in-Leaf.leaf c.revise_entry_at.new.leaf (revised_at c.args.key (g.E.Revise.revised c.args.revision.now)) (sym c.self.view_is ∙ ap seen c.in-Leaf.is) c.revise_entry_at.ensures.len c.revise_entry_at.ensures.rows
 
 pub returns-in-Leaf-clause-well : goal.returns-in-Leaf-clause-well
 returns-in-Leaf-clause-well g t c = leaf_well _ c.revise_entry_at.ensures.leaf
@@ -49,7 +49,7 @@ returns-in-Some-clause-rows g t c =
     let at = goal.at.returns-in-Some-clause-rows g t c in
     let inner = whole g t at.In-Inner in
     let after = revised g t at.After-revise_row inner (got g t at.In-Some inner) in
-    revised_answer c.args.key (g.E.Revise.revised c.args.edit.now) c.in-Inner.inner (inner_with c.in-Inner.inner c.child_place_at-place.result (part_with c.in-Some.child c.revise_row.new.self)) c.args.self.now (now g t at.In-Inner) refl after.rows
+    revised_answer c.args.key (g.E.Revise.revised c.args.revision.now) c.in-Inner.inner (inner_with c.in-Inner.inner c.child_place_at-place.result (part_with c.in-Some.child c.revise_row.new.self)) c.args.self.now (now g t at.In-Inner) refl after.rows
 
 pub returns-in-Some-clause-well : goal.returns-in-Some-clause-well
 returns-in-Some-clause-well g t c =
@@ -68,7 +68,7 @@ returns-in-Some-clause-spent g t c =
     let at = goal.at.returns-in-Some-clause-spent g t c in
     let inner = whole g t at.In-Inner in
     let same = value g t at.After-revise_row inner (now g t at.In-Inner) (got g t at.In-Some inner) in
-    c.revise_row.ensures.spent ∙ spent_same c.args.key g.E.Revise.spent c.args.edit.now c.deref_mut-node.result.now.rows c.args.self.now.rows same
+    c.revise_row.ensures.spent ∙ spent_same c.args.key g.E.Revise.spent c.args.revision.now c.deref_mut-node.result.now.rows c.args.self.now.rows same
 
 pub returns-in-Some-clause-found : goal.returns-in-Some-clause-found
 returns-in-Some-clause-found g t c =

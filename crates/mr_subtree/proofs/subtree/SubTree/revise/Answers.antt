@@ -2,10 +2,10 @@ use Rattle.mr_subtree.proofs.Common.{◌<◌, ◌≤◌, is_some, sym, ap, subst
 use Rattle.mr_subtree.proofs.subtree.SubTree.revise.Goals as goal
 
 pub returns-clause-rows : goal.returns-clause-rows
-returns-clause-rows g c = c.revise.ensures.rows ∙ ap (λ s. seen_with s (revised_at c.args.key (g.E.Revise.revised c.args.edit.now) s.rows)) c.self.view_is
+returns-clause-rows g c = c.revise.ensures.rows ∙ ap (λ s. seen_with s (revised_at c.args.key (g.E.Revise.revised c.args.revision.now) s.rows)) c.self.view_is
 
 pub returns-clause-spent : goal.returns-clause-spent
-returns-clause-spent g c = c.revise.ensures.spent ∙ ap (λ s. spent_at c.args.key g.E.Revise.spent c.args.edit.now s.rows) c.self.view_is
+returns-clause-spent g c = c.revise.ensures.spent ∙ ap (λ s. spent_at c.args.key g.E.Revise.spent c.args.revision.now s.rows) c.self.view_is
 
 pub returns-clause-found : goal.returns-clause-found
 returns-clause-found g c = c.revise.ensures.found ∙ ap (λ s. is_some (value_at c.args.key s.rows)) c.self.view_is

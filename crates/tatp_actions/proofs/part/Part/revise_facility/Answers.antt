@@ -13,7 +13,7 @@ pub returns-clause-spent : goal.returns-clause-spent
 returns-clause-spent g c =
     let tables = g.R.Rows.tables c.self.inside.rows in
     rw (← c.self.view_is)
-    (spent_found c.row_key.result g.E.Revise.spent c.args.edit.now c.revise_f.new.edit tables.facilities (facility_at (stored_book tables) c.args.s_id c.args.sf_type)
+    (spent_found c.row_key.result g.E.Revise.spent c.args.revision.now c.revise_f.new.revision tables.facilities (facility_at (stored_book tables) c.args.s_id c.args.sf_type)
     (facility_there tables c.row_key.result c.args.s_id c.args.sf_type c.self.invariant.1 c.row_key.ensures) c.revise_f.ensures.spent)
 
 pub returns-clause-kept : goal.returns-clause-kept

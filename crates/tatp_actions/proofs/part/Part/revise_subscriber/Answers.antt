@@ -13,7 +13,7 @@ pub returns-clause-spent : goal.returns-clause-spent
 returns-clause-spent g c =
     let tables = g.R.Rows.tables c.self.inside.rows in
     rw (← c.self.view_is)
-    (spent_found c.subscriber_key.result g.E.Revise.spent c.args.edit.now c.revise_s.new.edit tables.subscribers (subscriber_at (stored_book tables) c.args.s_id)
+    (spent_found c.subscriber_key.result g.E.Revise.spent c.args.revision.now c.revise_s.new.revision tables.subscribers (subscriber_at (stored_book tables) c.args.s_id)
     (subscriber_there tables c.subscriber_key.result c.args.s_id c.self.invariant.1 c.subscriber_key.ensures) c.revise_s.ensures.spent)
 
 pub returns-clause-kept : goal.returns-clause-kept

@@ -1,4 +1,4 @@
-use Rattle.view_board.proofs.Common.{rules, arith, ◌≡◌, ◌<◌, ◌/◌, ◌∙◌, sym, ap, refl, FitsSigned, w64, to_z, of_z, pos, unsigned_abs, to_z-of_z, View, SLOTS, SLOT_WORDS, WORDS, word_of, Owns, OwnsWord, posted, NetMoves, Station}
+use Rattle.view_board.proofs.Common.{rules, arith, ◌≡◌, ◌<◌, ◌/◌, ◌∙◌, sym, ap, refl, FitsSigned, w64, to_z, of_z, pos, unsigned_abs, to_z-of_z, View, SLOTS, SLOT_WORDS, WORDS, word_of, Owns, OwnsWord, posted, NetMoves, DeskState}
 use Rattle.view_board.proofs.ListLemmas.{set_within}
 use Rattle.view_board.proofs.StepLemmas.{raises}
 use Rattle.view_board.proofs.NetLemmas.{word_within, net_moves}
@@ -9,8 +9,8 @@ use Rattle.view_board.proofs.board.Board.add.Goals as goal
 pub fetch_add-requires : goal.fetch_add-requires
 fetch_add-requires c =
     let v : View = c.desk.inside.seat.me.0 in
-    let is : v ≡ c.args.desk.now.view = ap (λ (d : Station). d.view) c.desk.view_is in
-    let board = ap (λ (d : Station). d.board) c.desk.view_is ∙ (c.requires.board ∙ sym c.self.view_is) in
+    let is : v ≡ c.args.desk.now.view = ap (λ (d : DeskState). d.view) c.desk.view_is in
+    let board = ap (λ (d : DeskState). d.board) c.desk.view_is ∙ (c.requires.board ∙ sym c.self.view_is) in
     let own : Owns v c.args.slot = rw is c.requires.own in
     let below : c.args.slot < SLOTS = omega (arith, set_within v.owned c.args.slot own, c.desk.invariant.wide.slots) in
     let at = word_within c.args.slot c.args.cell c.args.amount below c.requires.cell in
@@ -45,7 +45,7 @@ returns-else-amount-eq0-clause-ok c = rw (← c.desk.view_is) (rw (c.fetch_add.e
 pub returns-else-amount-eq0-clause-net : goal.returns-else-amount-eq0-clause-net
 returns-else-amount-eq0-clause-net c =
     let v : View = c.desk.inside.seat.me.0 in
-    let is : v ≡ c.args.desk.now.view = ap (λ (d : Station). d.view) c.desk.view_is in
+    let is : v ≡ c.args.desk.now.view = ap (λ (d : DeskState). d.view) c.desk.view_is in
     let own : Owns v c.args.slot = rw is c.requires.own in
     let below : c.args.slot < SLOTS = omega (arith, set_within v.owned c.args.slot own, c.desk.invariant.wide.slots) in
     let moved : NetMoves v (posted v c.args.slot c.args.cell c.args.amount) c.args.cell c.args.amount = net_moves v c.args.slot c.args.cell c.args.amount c.desk.invariant.wide own below c.requires.cell in

@@ -1,4 +1,4 @@
-use Rattle.view_board.proofs.Common.{◌≡◌, ◌∙◌, sym, ap, refl, arith, Me, View, AreApart, both, numbers_of_both, NetAdds, Station}
+use Rattle.view_board.proofs.Common.{◌≡◌, ◌∙◌, sym, ap, refl, arith, Me, View, AreApart, both, numbers_of_both, NetAdds, DeskState}
 use Rattle.view_board.proofs.StepLemmas.{checks}
 use Rattle.view_board.proofs.JoinLemmas.{joins, told, joined_agrees}
 use Rattle.view_board.proofs.SumLemmas.{net_both}
@@ -6,13 +6,13 @@ use Rattle.view_board.proofs.board.Board.join.Goals as goal
 
 pub join_seat-requires : goal.join_seat-requires
 join_seat-requires c =
-    let board = ap (λ (d : Station). d.board) c.desk.view_is ∙ (c.requires.board ∙ sym c.self.view_is) in
-    let other = ap (λ (d : Station). d.board) c.other.view_is ∙ (c.requires.other ∙ sym c.self.view_is) in
+    let board = ap (λ (d : DeskState). d.board) c.desk.view_is ∙ (c.requires.board ∙ sym c.self.view_is) in
+    let other = ap (λ (d : DeskState). d.board) c.other.view_is ∙ (c.requires.other ∙ sym c.self.view_is) in
     (board, other, c.other.invariant.hand, rw c.self.invariant.0 (omega arith), joins _ _ _ _)
 
 pub load-requires : goal.load-requires
 load-requires c =
-    let board = ap (λ (d : Station). d.board) c.desk.view_is ∙ (c.requires.board ∙ sym c.self.view_is) in
+    let board = ap (λ (d : DeskState). d.board) c.desk.view_is ∙ (c.requires.board ∙ sym c.self.view_is) in
     (c.join_seat.ensures.0 ∙ board, rw c.self.invariant.0 (omega arith), checks _ _ _ _)
 
 pub invariant_of-desk : goal.invariant_of-desk
@@ -31,14 +31,14 @@ apart c =
 
 pub returns-clause-told : goal.returns-clause-told
 returns-clause-told c =
-    let v : c.desk.inside.seat.me.0 ≡ c.args.desk.now.view = ap (λ (d : Station). d.view) c.desk.view_is in
-    let other : c.other.inside.seat.me.0 ≡ c.args.other.view = ap (λ (d : Station). d.view) c.other.view_is in
+    let v : c.desk.inside.seat.me.0 ≡ c.args.desk.now.view = ap (λ (d : DeskState). d.view) c.desk.view_is in
+    let other : c.other.inside.seat.me.0 ≡ c.args.other.view = ap (λ (d : DeskState). d.view) c.other.view_is in
     rw (← v, ← other) (apart c)
 
 pub returns-clause-net : goal.returns-clause-net
 returns-clause-net c =
-    let v : c.desk.inside.seat.me.0 ≡ c.args.desk.now.view = ap (λ (d : Station). d.view) c.desk.view_is in
-    let other : c.other.inside.seat.me.0 ≡ c.args.other.view = ap (λ (d : Station). d.view) c.other.view_is in
+    let v : c.desk.inside.seat.me.0 ≡ c.args.desk.now.view = ap (λ (d : DeskState). d.view) c.desk.view_is in
+    let other : c.other.inside.seat.me.0 ≡ c.args.other.view = ap (λ (d : DeskState). d.view) c.other.view_is in
     let after = ap (λ (m : Me (Unit {0}) View). m.0) (c.load.ensures.2.same ∙ c.join_seat.ensures.2) in
     let sum : NetAdds (both c.desk.inside.seat.me.0 c.other.inside.seat.me.0) c.desk.inside.seat.me.0 c.other.inside.seat.me.0 = net_both c.desk.inside.seat.me.0 c.other.inside.seat.me.0 c.desk.invariant.wide c.other.invariant.wide (apart c).slots in
     rw (after, ← v, ← other) sum

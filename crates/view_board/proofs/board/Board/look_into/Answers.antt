@@ -1,4 +1,4 @@
-use Rattle.view_board.proofs.Common.{◌∙◌, sym, ap, refl, arith, Station}
+use Rattle.view_board.proofs.Common.{◌∙◌, sym, ap, refl, arith, DeskState}
 use Rattle.view_board.proofs.LookLemmas.{all_looked}
 use Rattle.view_board.proofs.StepLemmas.{looks}
 use Rattle.view_board.proofs.NetLemmas.{own_within}
@@ -6,7 +6,7 @@ use Rattle.view_board.proofs.board.Board.look_into.Goals as goal
 
 pub load-requires : goal.load-requires
 load-requires c =
-    let board = ap (λ (d : Station). d.board) c.desk.view_is ∙ (c.requires ∙ sym c.self.view_is) in
+    let board = ap (λ (d : DeskState). d.board) c.desk.view_is ∙ (c.requires ∙ sym c.self.view_is) in
     (c.loop-word.invariant.table ∙ board, rw c.self.invariant.0 c.loop-word-test.true, looks _ _ _ _)
 
 pub returns-clause-seen : goal.returns-clause-seen

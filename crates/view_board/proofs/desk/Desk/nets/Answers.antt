@@ -1,4 +1,4 @@
-use Rattle.view_board.proofs.Common.{◌≡◌, ℤ, ap, arith, length, pos, ints, blank_at, View, SLOTS, CELLS, Station}
+use Rattle.view_board.proofs.Common.{◌≡◌, ℤ, ap, arith, length, pos, ints, blank_at, View, SLOTS, CELLS, DeskState}
 use Rattle.view_board.proofs.NetLemmas.{net_from-next, net_from-end}
 use Rattle.view_board.proofs.desk.Desk.nets.Goals as goal
 
@@ -16,7 +16,7 @@ loop-slot-preserved c = record {
   sum = λ k below.
       let v : View = c.args.self.now.view in
       let slot = c.loop-slot.slot in
-      let slots : length v.owned ≡ SLOTS = rw (← ap (λ (d : Station). d.view) c.self.view_is) c.self.invariant.wide.slots in
+      let slots : length v.owned ≡ SLOTS = rw (← ap (λ (d : DeskState). d.view) c.self.view_is) c.self.invariant.wide.slots in
       let next = net_from-next v.owned slot slot v.numbers k (omega (arith, slots, c.loop-slot-test.true)) in
       let before = c.loop-slot.invariant.sum k below in
       let added = c.add_nets.ensures.added k below in
@@ -27,7 +27,7 @@ loop-slot-preserved c = record {
 pub returns-clause-value : goal.returns-clause-value
 returns-clause-value c = λ k below.
     let v : View = c.args.self.now.view in
-    let slots : length v.owned ≡ SLOTS = rw (← ap (λ (d : Station). d.view) c.self.view_is) c.self.invariant.wide.slots in
+    let slots : length v.owned ≡ SLOTS = rw (← ap (λ (d : DeskState). d.view) c.self.view_is) c.self.invariant.wide.slots in
     let last = net_from-end v.owned c.loop-slot.slot c.loop-slot.slot v.numbers k (omega (arith, slots, c.loop-slot-test.false)) in
     let sum = c.loop-slot.invariant.sum k below in
     omega (arith, ints, sum, last)
