@@ -39,7 +39,7 @@ files() {
   install -m 644 "$dist/share/man/man1/hlr.1" "$1/share/man/man1/"
   install -m 644 "$dist/$package"/*.py "$dist/$package/built.txt" "$1/$package/"
   ln -sf "../../../$soname" "$1/$package/$soname"
-  install -m 644 "$dist/$examples"/day.* "$dist/$examples/save.c" "$1/$examples/"
+  install -m 644 "$dist/$examples"/*.* "$1/$examples/"
   install -m 644 "$dist/$examples/live"/* "$1/$examples/live/"
   described "$2" > "$1/lib/pkgconfig/hlr.pc"
   chmod 644 "$1/lib/pkgconfig/hlr.pc"
@@ -106,7 +106,7 @@ tree() {
   install -m 644 python/hlr/*.py "$dist/$package/"
   ln -s "../../../$soname" "$dist/$package/$soname"
   built > "$dist/$package/built.txt"
-  install -m 644 examples/library/day.c examples/library/save.c tests/outside/library/day.cc examples/library/day.py "$dist/$examples/"
+  install -m 644 examples/library/*.{c,cc,py} tests/outside/library/day.cc examples/*.csv examples/client.* "$dist/$examples/"
   install -m 644 examples/live/* "$dist/$examples/live/"
   "$program" --help < /dev/null | awk -v version="$version" -v day="$(date -d "@$epoch" +%F)" -f tools/man.awk > "$dist/share/man/man1/hlr.1"
 }

@@ -12,5 +12,5 @@ if [ "${1:-all}" = all ]; then
   crates/hlr_c/archive.sh > "$room/out" || fail 'crates/hlr_c/archive.sh'
 fi
 parts examples readme docs options streams bytes waiting memory threads library dist python live
-counted ./refuse_memory.sh
+counted tests/refuse_memory.sh
 finish

@@ -1,20 +1,19 @@
 #!/usr/bin/env python3
-"""Makes docs/definitions.txt: each definition of the specs with its place and the comment in front of it.
+"""Prints an index of the specs: each definition with its place and the comment in front of it, crate by crate.
 
-    python3 tools/definitions.py            at the repository's top; writes the file
-    python3 tools/definitions.py --check    compares it, and ends with status 1 where it isn't what the specs say
+    python3 tools/definitions.py > /tmp/definitions.txt    at the repository's top
+    python3 tools/definitions.py --check                   prints no index, and only looks for definitions without a comment
 
-A definition with no comment right in front of it is an error: it is named, and the status is 1.
+A definition with no comment right in front of it is an error: it is named on standard error, and the status is 1.
 """
 import itertools
 import pathlib
 import re
 import sys
 
-INDEX = pathlib.Path("docs/definitions.txt")
 HEAD = """\
-Each definition of the specs: its place, its name, and what the comment in front of it says.
-Made by tools/definitions.py; test.sh compares. The text of a definition decides, not this line.
+Each definition of the specs: its place, its name, and what the comment in front of it says. The text of a definition
+decides what it means, and not this line.
 
 """
 # `abbrev pub NAME :`, `pub record NAME ..`, `NAME :`
@@ -69,14 +68,10 @@ def main(check):
             lines.append(f"{path}:{number}: {name}: {comment}\n")
             if not comment:
                 bare.append(f"{path}:{number}: {name} has no comment in front of it")
-    index = HEAD + "".join(lines)
     for line in bare:
         print(line, file=sys.stderr)
     if not check:
-        INDEX.write_text(index)
-    elif not INDEX.exists() or INDEX.read_text() != index:
-        print(f"{INDEX} isn't what the specs say: run python3 tools/definitions.py", file=sys.stderr)
-        return 1
+        print(HEAD + "".join(lines), end="")
     return 1 if bare else 0
 
 

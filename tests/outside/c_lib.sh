@@ -28,3 +28,11 @@ probed() {
   rm -f "$room/probed"
   PROBE_MODE=$1 PROBE_CALL=$2 PROBE_FILE=$room/probed LD_PRELOAD=$room/probe.so "${@:3}"
 }
+
+# installable NAME: what dist.sh reads of the repository, in the folder $room/NAME.
+installable() {
+  mkdir "$room/$1"
+  cp --parents dist.sh tools/man.awk crates/hlr/src/options.rt crates/hlr_c/hlr.h crates/hlr_c/hlr.hpp "$archive" crates/hlr/out/hlr \
+    python/hlr/*.py examples/live/*.* examples/library/*.{c,cc,py} examples/*.csv examples/client.* \
+    tests/outside/library/day.cc "$room/$1"
+}

@@ -8,13 +8,6 @@ header=crates/hlr_c/hlr.h
 version=$(sed -n 's/^const VERSION: &str = "\(.*\)";$/\1/p' crates/hlr/src/options.rt)
 unset SOURCE_DATE_EPOCH
 
-# copied NAME: what dist.sh reads of the repository, in a folder of its own.
-copied() {
-  mkdir "$room/$1"
-  cp --parents dist.sh tools/man.awk crates/hlr/src/options.rt "$header" crates/hlr_c/hlr.hpp "$archive" crates/hlr/out/hlr \
-    python/hlr/*.py examples/live/*.* examples/library/day.* examples/library/save.c "$in_library/day.cc" "$room/$1"
-}
-
 # alike NAME FOLDER FOLDER: both have the same files, with the same bytes and modes.
 alike() {
   is "$1" "$(diff -r --no-dereference "$2" "$3" 2>&1)" ''
@@ -23,8 +16,8 @@ alike() {
 
 # made: two copies make the same packages, also with other rights, times and places; they have the time that is given.
 made() {
-  copied one
-  copied two
+  installable one
+  installable two
   is 'dist.sh' "$("$room/one/dist.sh" 2>&1; echo "$?")" "$(without_deb; echo 0)"
   is 'dist.sh again' "$(cd / && umask 077 && TZ=Asia/Tokyo LC_ALL=C.UTF-8 "$room/two/dist.sh" 2>&1; echo "$?")" "$(without_deb; echo 0)"
   for package in "hlr-$version-x86_64-linux.tar.gz" ${deb:+"$deb"}; do
@@ -66,8 +59,9 @@ names() {
 installed() {
   local python=lib/python3/dist-packages/hlr files
   files=$(printf '%s\n' bin/hlr include/hlr.h include/hlr.hpp lib/libhlr.a lib/libhlr.so lib/libhlr.so.1 lib/pkgconfig/hlr.pc \
-    python/hlr/*.py $python/built.txt $python/libhlr.so.1 share/man/man1/hlr.1 share/doc/hlr/examples/{day.c,day.cc,day.py,save.c} \
-    examples/live/*.* | sed "s,^python/hlr,$python,; s,^examples,share/doc/hlr/&," | sort)
+    python/hlr/*.py $python/built.txt $python/libhlr.so.1 share/man/man1/hlr.1 examples/day.{c,cc,py} \
+    examples/first.{c,cc,py} examples/{parts,save}.c examples/*.csv examples/client.{py,sh} examples/live/*.* |
+    sed "s,^python/hlr,$python,; s,^examples,share/doc/hlr/&," | sort)
   is 'dist.sh install' "$(PREFIX=$room/prefix "$room/one/dist.sh" install 2>&1; echo "$?")" 0
   is 'what it installs' "$(cd "$room/prefix" && find . ! -type d | sed 's/^..//' | sort)" "$files"
   is 'dist.sh install below a folder' "$(umask 077; PREFIX=/opt/hlr DESTDIR=$room/root "$room/one/dist.sh" install 2>&1; echo "$?")" 0
@@ -178,7 +172,7 @@ refused() {
 
 refusals() {
   local copy=$room/three
-  copied three
+  installable three
   refused "it takes the word install, or none, and not 'all'" "$copy/dist.sh" all
   refused "there is no $copy/dist/bin/hlr: run ./dist.sh" "$copy/dist.sh" install
   refused 'PREFIX is no path from the root: usr' env PREFIX=usr "$copy/dist.sh" install

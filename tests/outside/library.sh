@@ -41,6 +41,20 @@ days() {
   ended 'a day in C with a small stack' "$day.stdout" "$room/small_stack"
 }
 
+# The examples of the pages, by the strictest warnings; the one with threads also under valgrind.
+examples() {
+  local strict=(-Wconversion -Wpedantic)
+  if client first "${strict[@]}" examples/library/first.c; then
+    ended 'first.c' <(printf 'Done, Done, Done\nsubscribers in area 2: 1\n') "$room/first"
+  fi
+  client parts "${strict[@]}" examples/library/parts.c || return
+  printf '128 subscribers in area 1\n1 bound moved: part 1 begins at 33 now\n' > "$room/parts.want"
+  ended 'parts.c' "$room/parts.want" "$room/parts"
+  if tool valgrind 'parts.c under it'; then
+    ended 'parts.c under valgrind' "$room/parts.want" valgrind -q --leak-check=full --error-exitcode=9 "$room/parts"
+  fi
+}
+
 # Each field comes back as it went in; many questions are answered as one is; and a handle that goes from thread to thread,
 # which tells 1,000 rows in both cells.
 clients() {
@@ -87,6 +101,7 @@ tool gcc 'the library for C' || finish
 headers
 archive_built || finish
 days
+examples
 clients
 lent
 saved

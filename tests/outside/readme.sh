@@ -1,7 +1,12 @@
 #!/usr/bin/env bash
-# What the README and the pages of docs show: in a fence each line after a $ is a command that prints what stands below it,
-# up to the next $ or the fence's end. A backslash at its end carries a command on.
+# What the pages show: in a fence each line after a $ is a command that prints what stands below it, up to the next $ or the
+# fence's end. A backslash at its end carries a command on. A command that names a path of the repository runs at the top.
+# Any other one runs in a copy of the examples that dist.sh installs, with the installed program and libraries, as the pages
+# tell their readers. The commands of a page run in their order and in one folder, so that one may use what another made.
 . "$(dirname "$0")/lib.sh" || exit 1
+. tests/outside/c_lib.sh || exit 1
+top=$PWD
+tree=$room/installed/dist
 
 # shown PAGE: writes each command of a page to $room/PAGE.NN, and what stands below it to $room/PAGE.NN.want; prints these
 # names without .want.
@@ -14,24 +19,44 @@ shown() {
     { print > (to ".want") }' "$1"
 }
 
+# at_top COMMAND: whether it names a path of the repository.
+at_top() { grep -qE '(^|[^A-Za-z0-9_/.-])(\./)?(bench|crates|docs|examples|python|tests|tools)/|\./[a-z]+\.sh' <<< "$1"; }
+
 # needs COMMAND: whether the built programs that it names are there.
 needs() {
   local programs program
   mapfile -t programs < <(grep -oE 'crates/[a-z_]+/out/[A-Za-z_.]+' <<< "$1" | sort -u)
-  for program in "${programs[@]}"; do
+  for program in ${programs[@]+"${programs[@]}"}; do
     built "$program" "run rt run in ${program%/out/*}" || return
   done
 }
 
-pages=0
-for page in README.md docs/*.md; do
-  for each in $(shown "$page"); do
-    pages=$((pages + 1))
+# run_page PAGE: runs its commands, and compares what they print.
+run_page() {
+  local each command folder
+  folder=$room/pages/$(tr / _ <<< "$1")
+  mkdir -p "$room/pages"
+  cp -r "$tree/share/doc/hlr/examples" "$folder"
+  for each in $(shown "$1"); do
+    shown=$((shown + 1))
     command=$(cat "$each")
     needs "$command" || continue
+    if at_top "$command"; then cd "$top" || exit 1; else cd "$folder" || exit 1; fi
     bash -c "$command" > "$room/out" 2>&1 < /dev/null
-    same "$page: $command" "$room/out" "$each.want"
+    cd "$top" || exit 1
+    same "$1: $command" "$room/out" "$each.want"
   done
-done
-is 'pages show commands' "$([ "$pages" -gt 0 ] && echo yes)" yes
+}
+
+tool gcc 'what the pages show' && tool python3 'what the pages show' && tool pkg-config 'what the pages show' || finish
+program_built || finish
+archive_built || finish
+installable installed
+is 'dist.sh' "$("$room/installed/dist.sh" 2>&1 | grep -v 'no Debian package')" ''
+unset HLR_LIBRARY
+export PATH=$tree/bin:$PATH LD_LIBRARY_PATH=$tree/lib PKG_CONFIG_PATH=$tree/lib/pkgconfig
+export PYTHONPATH=$tree/lib/python3/dist-packages PYTHONDONTWRITEBYTECODE=1
+shown=0
+for page in README.md CONTRIBUTING.md CHANGELOG.md docs/*.md examples/README.md bench/README.md; do run_page "$page"; done
+is 'pages show commands' "$([ "$shown" -gt 20 ] && echo yes)" yes
 finish

@@ -1,7 +1,7 @@
 #!/usr/bin/env python3
-"""Draws the pictures of docs/: counts.svg from the text below, speed.svg from the tables of SPEED.md, crates.svg from crates.txt.
+"""Draws the pictures of docs/: counts.svg from the text below, speed.svg from a table of SPEED.md, crates.svg from crates.txt.
 
-    python3 docs/pictures.py [FOLDER]     at the repository's top; into docs/, or the folder
+    python3 tools/pictures.py [FOLDER]     at the repository's top; draws into docs/, or into the folder
 
 It calls `dot` (Debian's package graphviz) for the crates.
 """
