@@ -12,7 +12,7 @@ It prints what is wrong, a line each, and ends with status 1 if there is anythin
 
 The prose of a page is its paragraphs and the items of its lists. Fenced and indented code, tables, headings, comments and
 pictures are no prose. An item that doesn't end in a full stop, a question mark or a colon is an entry of a list of names,
-so its length isn't counted. A sentence ends at '.', '?', '!' or ':' where a space and then a capital letter, a digit,
+so its length isn't counted; nor is that of a bold phrase that stands in front of a paragraph as its heading. A sentence ends at '.', '?', '!' or ':' where a space and then a capital letter, a digit,
 a quote, a bracket, an asterisk or code follow, and at the end of its paragraph or item. A colon ends one only at the end
 of a paragraph. A word is a run of characters without a space that has a letter or a digit. Code between backticks is one
 word, and a link is the words that it shows.
@@ -79,7 +79,7 @@ def sentences(block):
     """The sentences of a block of prose."""
     if block.kind not in ("paragraph", "item"):
         return []
-    text = plain(block.text).strip()
+    text = re.sub(r"^\*\*[^*]+[.?:]\*\*\s*", "", plain(block.text).strip())
     if block.kind == "item" and not re.search(r"[.?!:][)\"'*]*$", text):
         return []
     return [it for it in END.split(SHORT.sub(r"\1 ", text)) if words(it)]

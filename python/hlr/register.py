@@ -322,7 +322,7 @@ class Register(_Open):
         return _access(row)
 
     def find(self, sub_nbr: int) -> int:
-        """Tells the s_id of the subscriber who has a number. Raises Field, NoNumber."""
+        """Returns the s_id of the subscriber who has a number. Raises Field, NoNumber."""
         s_id = ctypes.c_uint64()
         self._call("find", sub_nbr, s_id)
         return s_id.value

@@ -60,7 +60,8 @@ installed() {
   local python=lib/python3/dist-packages/hlr files
   files=$(printf '%s\n' bin/hlr include/hlr.h include/hlr.hpp lib/libhlr.a lib/libhlr.so lib/libhlr.so.1 lib/pkgconfig/hlr.pc \
     python/hlr/*.py $python/built.txt $python/libhlr.so.1 share/man/man1/hlr.1 examples/day.{c,cc,py} \
-    examples/first.{c,cc,py} examples/{parts,save}.c examples/*.csv examples/client.{py,sh} examples/live/*.* |
+    examples/first.{c,cc,py} examples/parts.{c,py} examples/save.c examples/backup.py examples/*.csv \
+    examples/client.{py,sh} examples/live/*.* |
     sed "s,^python/hlr,$python,; s,^examples,share/doc/hlr/&," | sort)
   is 'dist.sh install' "$(PREFIX=$room/prefix "$room/one/dist.sh" install 2>&1; echo "$?")" 0
   is 'what it installs' "$(cd "$room/prefix" && find . ! -type d | sed 's/^..//' | sort)" "$files"
@@ -123,15 +124,15 @@ kit $(rt version)"
   is "$1: examples/live" "$(cut -d ' ' -f 2- "$room/out")" 'for 0 minutes'
 }
 
-# lines_of_readme: what the README has typed in the tar ball's folder, with the page ended at once.
-lines_of_readme() {
+# lines_of_page: what docs/LIBRARY.md has typed in the tar ball's folder, with the page of examples/live ended at once.
+lines_of_page() {
   local tree=$room/hlr-$version
-  tool g++ "the README's lines for the tar ball" && tool python3 "the README's lines for the tar ball" || return
-  sed -n '/^export LD_LIBRARY_PATH=/,/^```$/p' README.md | sed '/^```$/d; s,examples/live$,& --minutes 0,' > "$room/lines"
-  is "the README's lines" "$(wc -l < "$room/lines")" 4
+  tool g++ 'the lines for the tar ball' && tool python3 'the lines for the tar ball' || return
+  sed -n '/^export LD_LIBRARY_PATH=/,/^```$/p' docs/LIBRARY.md | sed '/^```$/d; s,examples/live$,& --minutes 0,' > "$room/lines"
+  is 'the lines for the tar ball' "$(wc -l < "$room/lines")" 4
   (cd "$tree" && unset HLR_LIBRARY PKG_CONFIG_PATH && bash -e "$room/lines") 2>&1 | sed '$s/^http:[^ ]*/page/' > "$room/out"
   { cat examples/library/day.stdout "$in_library/day.stdout"; echo 'page for 0 minutes'; } > "$room/want"
-  same "the README's lines" "$room/out" "$room/want"
+  same 'the lines for the tar ball' "$room/out" "$room/want"
 }
 
 # in_cpp NAME WORD ..: g++ with these words makes $room/day of the day in C++.
@@ -200,7 +201,7 @@ if tool pkg-config 'clients by hlr.pc'; then
   # the tar ball, unpacked anywhere
   tar -xzf "$room/one/dist/hlr-$version-x86_64-linux.tar.gz" -C "$room"
   clients "$room/hlr-$version"
-  lines_of_readme
+  lines_of_page
 fi
 [ -z "$deb" ] || packaged
 manual
