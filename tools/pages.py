@@ -114,7 +114,8 @@ def check_names(page, names):
             for name in re.findall(r"\w+", code):
                 if looks_like_name(name) and name not in names:
                     yield f"{page}:{number}: nothing is called {name}"
-            if re.fullmatch(r"[\w/]+\.(rt|antt)", code) and not source_file(code):
+            is_source = re.fullmatch(r"[\w/]+\.(rt|antt)", code) and not re.match(r"crates/|src/|specs/", code) and not re.search(r"[A-Z]{3}", code)
+            if is_source and not source_file(code):
                 yield f"{page}:{number}: no crate has a file {code}"
 
 
