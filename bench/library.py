@@ -87,7 +87,7 @@ def compare(room, subscribers, rounds):
 def compare_owners(room, subscribers, rounds):
     """Prints the speeds of owners, and of threads that share a handle, beside that of one thread with the handle alone."""
     program = build_over_hlr(f"{HERE}/owners.c", f"{room}/owners")
-    print("| subscribers, load | one handle | 1 owner | 2 | 3 | 4 | 2 by a lock | 3 | 4 |\n|---|---|---|---|---|---|---|---|---|")
+    print("| subscribers, load | one handle | 1 part | 2 | 3 | 4 | 2 with a lock | 3 | 4 |\n|---|---|---|---|---|---|---|---|---|")
     for size in subscribers:
         taken = {}
         for _ in range(rounds):

@@ -1,6 +1,7 @@
 #!/usr/bin/env bash
-# Measures what docs/SPEED.md has in seconds, in some five minutes on a machine with nothing beside: programs side by side,
-# parts, an engine, the program with threads, the library for C and owners of its parts.
+# Measures what docs/SPEED.md has in seconds, in some five minutes on a machine where nothing else runs: the program compared
+# with others, parts, an engine, the program with threads, the library for C, and threads with lent parts. First it prints the
+# machine, the day and the commit.
 #
 #   bash bench/measure.sh write      builds the programs to measure beside, and writes the loads; once, before
 #   bash bench/measure.sh [NAME ..]  measures: beside, parts, engine, threads, library, owners; without a name all of them
@@ -33,10 +34,21 @@ measure() {
   esac
 }
 
+# machine: prints on what it is measured, when, and what.
+machine() {
+  lscpu | sed -n 's/^\(Model name\|CPU(s)\|L[123].* cache\): */\1: /p'
+  sed -n 's/^MemTotal: */memory: /p' /proc/meminfo
+  echo "kernel: $(uname -r)"
+  echo "day: $(date +%F)"
+  echo "commit: $(git describe --always --dirty 2> /dev/null || echo 'that is not known')"
+  echo
+}
+
 if [ "${1:-}" = write ]; then
   write
   exit
 fi
+machine
 for name in "${@:-beside parts engine threads library owners}"; do
   for one in $name; do
     echo "$one, at $(date +%T), $(cut -d' ' -f1 /proc/loadavg) programs ready:"

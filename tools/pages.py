@@ -102,10 +102,11 @@ def looks_like_name(word):
 
 
 def source_file(name):
-    """Whether a crate has this file in src/ or specs/: CRATE/FILE, or FILE of any crate."""
+    """Whether a crate has this file: CRATE/src/FILE or CRATE/specs/FILE, CRATE/FILE, or FILE of any crate."""
     folder = "specs" if name.endswith(".antt") else "src"
     crate, _, rest = name.partition("/")
-    return Path("crates", crate, folder, rest).is_file() or any(Path("crates").glob(f"*/{folder}/**/{name}"))
+    places = [Path("crates", name), Path("crates", crate, folder, rest)]
+    return any(it.is_file() for it in places) or any(Path("crates").glob(f"*/{folder}/**/{name}"))
 
 
 def check_names(page, names):
@@ -114,7 +115,7 @@ def check_names(page, names):
             for name in re.findall(r"\w+", code):
                 if looks_like_name(name) and name not in names:
                     yield f"{page}:{number}: nothing is called {name}"
-            is_source = re.fullmatch(r"[\w/]+\.(rt|antt)", code) and not re.match(r"crates/|src/|specs/", code) and not re.search(r"[A-Z]{3}", code)
+            is_source = re.fullmatch(r"[\w/]+\.(rt|antt)", code) and not re.match(r"crates/|src/|specs/|proofs/", code) and not re.search(r"[A-Z]{3}", code)
             if is_source and not source_file(code):
                 yield f"{page}:{number}: no crate has a file {code}"
 

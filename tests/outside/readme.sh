@@ -48,7 +48,7 @@ run_page() {
   done
 }
 
-tool gcc 'what the pages show' && tool python3 'what the pages show' && tool pkg-config 'what the pages show' || finish
+for needed in gcc g++ python3 pkg-config; do tool "$needed" 'what the pages show' || finish; done
 program_built || finish
 archive_built || finish
 installable installed
