@@ -1,3 +1,4 @@
+# shellcheck shell=bash
 # For the benches: a repository in /tmp/bench in which a bench is a crate beside copies of the crates that it stands on.
 #
 #   . bench/room.sh; open_room NAME LIBRARY ..; build_program WORDS     at the repository's top
@@ -34,7 +35,8 @@ open_room() {
 
 # add_invariants MODULE: the file bench/NAME/MODULE.antt.txt, for the loops of that function.
 add_invariants() {
-  local crate=$room/crates/$(basename "$room")_bench
+  local crate
+  crate=$room/crates/$(basename "$room")_bench
   mkdir -p "$crate/proofs/$1"
   cp "bench/$(basename "$room")/$1.antt.txt" "$crate/proofs/$1/Invariants.antt"
 }

@@ -1,4 +1,4 @@
-"""A home location register, over the shared library of the calls that hlr.h declares.
+"""A home location register, over the shared library whose calls hlr.h declares.
 
 >>> import hlr
 >>> with hlr.Register(parts=4) as register:
@@ -13,18 +13,18 @@ hour 9 1
 area 1 1
 zone 0 3
 
-A refused call raises the exception of its code, which is a `Refused`:
+A call that is refused raises the exception of its code, which is a subclass of `Refused`:
 
 >>> with hlr.Register() as register:
 ...     try:
 ...         register.subscriber_data(7)
 ...     except hlr.NoSubscriber as refused:
 ...         print(refused.code.name, int(refused.code), refused)
-NO_SUBSCRIBER 3 subscriber_data: there is no such subscriber row
+NO_SUBSCRIBER 3 subscriber_data: there is no subscriber with this s_id
 
-As the first register is opened, the library is looked for: at the path that the environment variable HLR_LIBRARY has;
-where that isn't set, as libhlr.so.1 in this package and in the folder that has it; and then where the system's loader
-finds libhlr.so.1. If it isn't found, ImportError is raised.
+The library is loaded when the first register is opened. If the environment variable HLR_LIBRARY is set, it is the path
+of the library. Otherwise libhlr.so.1 is looked for in this package, then in the folder that contains the package, and
+then where the system's loader looks. ImportError is raised if it isn't found.
 """
 from .records import load, save
 from .refusals import (Away, Code, Elsewhere, Exists, Field, ManyParts, ManyPieces, Memory, Moving, NoAccess,

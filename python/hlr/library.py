@@ -1,4 +1,4 @@
-"""The shared library: where it is found, and its calls and structures as hlr.h has them."""
+"""Finds and loads the shared library, with its calls and structures as hlr.h declares them."""
 import ctypes
 import functools
 import hashlib
@@ -120,7 +120,7 @@ _PART_CALLS = {
 
 
 def path() -> str:
-    """What the loader is given: a path, or NAME where the system's own places are left to look in."""
+    """Returns what the loader is given: a path, or NAME if only the places of the system are left to look in."""
     if "HLR_LIBRARY" in os.environ:
         return os.environ["HLR_LIBRARY"]
     package = os.path.dirname(os.path.abspath(__file__))
@@ -129,7 +129,7 @@ def path() -> str:
 
 
 def built() -> str:
-    """What the library was built from, in lines, as dist.sh wrote it down; nothing where the library is another one."""
+    """Returns what the library was built from, in lines as dist.sh wrote them, or '' for another library."""
     try:
         with open(path(), "rb") as file:
             checksum = hashlib.sha256(file.read()).hexdigest()
@@ -142,7 +142,7 @@ def built() -> str:
 
 @functools.lru_cache(maxsize=None)
 def library() -> ctypes.CDLL:
-    """The library with its calls, loaded once."""
+    """Loads the library once, and returns it with its calls."""
     where = path()
     try:
         loaded = ctypes.CDLL(where)

@@ -1,4 +1,4 @@
-"""All rows of a register as records of the program hlr, and a register of such records."""
+"""Saves all rows of a register as records of the program hlr, and loads a register from such records."""
 import csv
 import re
 from typing import Callable, Dict, Iterable, Iterator, List, TextIO
@@ -8,7 +8,7 @@ from .register import Access, Facility, Register, Subscriber
 
 
 def _fields_of(register: Register, row: Subscriber) -> Iterator[List[object]]:
-    """The records of a subscriber and of all that is theirs."""
+    """Iterates over the records of a subscriber and of everything that belongs to them."""
     s_id, sub_nbr = row.s_id, f"{row.sub_nbr:015}"
     digits = "".join(map(str, row.bits)), "".join(f"{each:x}" for each in row.hexes), row.octets.hex()
     yield ["sub", s_id, sub_nbr, *digits, row.msc_location, row.vlr_location]
@@ -22,9 +22,9 @@ def _fields_of(register: Register, row: Subscriber) -> Iterator[List[object]]:
 
 
 def save(register: Register, file: TextIO) -> int:
-    """Writes all rows as the records sub, acc, fac and icf, by subscriber, and tells how many records there are. No
-    other thread's call comes in between. Raises Moving where a piece is loose, or Away where a part is out, before it
-    writes anything.
+    """Writes all rows as the records sub, acc, fac and icf, one subscriber after another, and returns how many records
+    there are. Calls of other threads wait meanwhile. Before it writes anything, it raises Moving if a piece is loose,
+    and Away if a part is lent.
 
     >>> import io, sys
     >>> register = load(io.StringIO("sub,7,000000000000077,1000000000,0123456789,000102030405060708ff,1,2\\n"))
@@ -56,7 +56,7 @@ def _called(field: str) -> int:
 
 
 def _digits(field: str, each: int) -> bytes:
-    """Ten numbers, of so many hexadecimal digits each."""
+    """Reads ten numbers, of so many hexadecimal digits each."""
     if not re.fullmatch(f"[0-9A-Fa-f]{{{10 * each}}}", field):
         raise Field(f"{field!r} isn't {10 * each} digits")
     return bytes(int(field[at:at + each], 16) for at in range(0, len(field), each))
@@ -95,9 +95,9 @@ _FIELDS = {"sub": 7, "acc": 6, "fac": 6, "icf": 5}
 
 
 def load(file: Iterable[str], parts: int = 1, width: int = 524288) -> Register:
-    """Opens a register of so many parts and of this width, with the rows of records sub, acc, fac and icf. A record of
-    another kind, or with another number of fields, raises ValueError; one that is refused raises the exception of the
-    call that it asks for, with its line. Either closes the register.
+    """Opens a register of so many parts and of this zone width, and adds the rows of the records sub, acc, fac and icf.
+    Raises ValueError for a record of another kind or with the wrong number of fields. For a record that is refused, it
+    raises the exception of the call that the record asks for, with its line. In both cases it closes the register.
 
     >>> load(["sub,7,000000000000077,1000000000,0123456789,000102030405060708ff,1,2", "gsd,7"])
     Traceback (most recent call last):

@@ -1,10 +1,10 @@
-"""The codes that calls answer, and an exception for each one that isn't DONE."""
+"""The codes that calls return, and an exception for each one except DONE."""
 import enum
 from typing import Dict, Type
 
 
 class Code(enum.IntEnum):
-    """The codes of hlr.h, by their names there without HLR_."""
+    """The codes of hlr.h, under their names there without HLR_."""
 
     DONE = 0
     MEMORY = 1
@@ -32,25 +32,25 @@ class Code(enum.IntEnum):
 
 
 class Refused(Exception):
-    """A call was refused; `code` tells why. It changed nothing, but for `post` and `recut`, which say so."""
+    """A call was refused, and `code` says why. It has changed nothing, except for `post` and `recut`, which say so."""
 
     code: Code
 
 
 class Memory(Refused):
-    """no memory was left"""
+    """no memory was left; free some, and call again"""
 
     code = Code.MEMORY
 
 
 class Field(Refused):
-    """a number or a letter is out of its range"""
+    """a number or a letter is out of its range, which help(hlr.Register) lists"""
 
     code = Code.FIELD
 
 
 class NoSubscriber(Refused):
-    """there is no such subscriber row"""
+    """there is no subscriber with this s_id"""
 
     code = Code.NO_SUBSCRIBER
 
@@ -62,19 +62,19 @@ class NoNumber(Refused):
 
 
 class NoAccess(Refused):
-    """no access row has this key, or there is no such subscriber"""
+    """there is no access of this type, or no such subscriber"""
 
     code = Code.NO_ACCESS
 
 
 class NoFacility(Refused):
-    """no facility row has this key, or (set_active) there is no such subscriber"""
+    """there is no facility of this type, or no such subscriber"""
 
     code = Code.NO_FACILITY
 
 
 class NoForwarding(Refused):
-    """no forwarding has this key"""
+    """there is no forwarding that starts at this hour, or no such facility or subscriber"""
 
     code = Code.NO_FORWARDING
 
@@ -86,73 +86,73 @@ class NoDestination(Refused):
 
 
 class Exists(Refused):
-    """a row with this key is there"""
+    """there is already a row with this key"""
 
     code = Code.EXISTS
 
 
 class NumberTaken(Refused):
-    """another subscriber has the number"""
+    """another subscriber has this number"""
 
     code = Code.NUMBER_TAKEN
 
 
 class Moving(Refused):
-    """the subscriber lies in a loose piece; of recut: a piece is loose"""
+    """the subscriber, or for recut and save any subscriber, is in a loose piece; have a part take it first"""
 
     code = Code.MOVING
 
 
 class NoPart(Refused):
-    """there is no such part"""
+    """no part has this number; regions() lists them"""
 
     code = Code.NO_PART
 
 
 class NoPiece(Refused):
-    """there is no such loose piece"""
+    """no loose piece has this number; regions() lists them"""
 
     code = Code.NO_PIECE
 
 
 class OutOfRange(Refused):
-    """at isn't strictly inside the part's range"""
+    """the place to cut at isn't strictly inside the part"""
 
     code = Code.OUT_OF_RANGE
 
 
 class NotAdjacent(Refused):
-    """the piece doesn't touch the part; of dissolve: no part touches it in front"""
+    """the piece doesn't touch the part; for dissolve: no part ends where this one begins"""
 
     code = Code.NOT_ADJACENT
 
 
 class ManyPieces(Refused):
-    """sixteen pieces are loose"""
+    """sixteen pieces are loose already; have one taken first"""
 
     code = Code.MANY_PIECES
 
 
 class Worn(Refused):
-    """a word of the board is at its limit, 2^63 - 1"""
+    """a word of the board is at its limit, 2^63 - 1; what was posted before stays"""
 
     code = Code.WORN
 
 
 class ManyParts(Refused):
-    """sixteen parts are there"""
+    """there are sixteen parts already; dissolve one first"""
 
     code = Code.MANY_PARTS
 
 
 class Elsewhere(Refused):
-    """the subscriber isn't in the part's range"""
+    """the subscriber isn't in the range of this part"""
 
     code = Code.ELSEWHERE
 
 
 class Away(Refused):
-    """a part on which the call works is out; of back: it wasn't sent home yet"""
+    """the call needs a part that is lent; send it home and take it back first"""
 
     code = Code.AWAY
 
@@ -173,7 +173,8 @@ BY_CODE: Dict[int, Type[Refused]] = {int(each.code): each for each in Refused.__
 
 
 def refusal(code: int, call: str) -> Exception:
-    """The exception of a code that a call answered."""
+    """Returns the exception for a code that a call returned."""
     if code not in BY_CODE:
-        return RuntimeError(f"{call}: the library answered {code}, which this package doesn't know")
+        return RuntimeError(f"{call}: the library returned {code}, which this package doesn't know; use a package and a "
+                            "library of the same version")
     return BY_CODE[code](f"{call}: {BY_CODE[code].__doc__}")

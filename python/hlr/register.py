@@ -1,4 +1,4 @@
-"""A register, its rows and its cells, and the parts that it lends."""
+"""A register with its rows, its counts, and the parts that it lends."""
 import ctypes
 import enum
 import threading
@@ -14,7 +14,7 @@ CELLS = c.CELLS
 
 
 class Side(enum.IntEnum):
-    """Which of a part's subscribers it gives away: those below a subscriber, or those from it on."""
+    """Which subscribers a part gives away: those below a subscriber, or those from it on."""
 
     LOW = 0
     HIGH = 1
@@ -30,7 +30,7 @@ class Kind(enum.Enum):
 
 @dataclass
 class Subscriber:
-    """A Subscriber row. `bits`, `hexes` and `octets` are ten numbers each: 0 or 1, 0 to 15, 0 to 255.
+    """A row of the table Subscriber. `bits`, `hexes` and `octets` have ten numbers each: 0 or 1, 0 to 15, and 0 to 255.
 
     >>> Subscriber(7, 77).vlr_location
     1
@@ -47,7 +47,7 @@ class Subscriber:
 
 @dataclass
 class Access:
-    """An Access_Info row. `data3` is three letters A to Z, and `data4` is five."""
+    """A row of the table Access_Info. `data3` has three letters of A to Z, and `data4` has five."""
 
     s_id: int
     ai_type: int
@@ -59,7 +59,7 @@ class Access:
 
 @dataclass
 class Facility:
-    """A Special_Facility row. `data_b` is five letters A to Z."""
+    """A row of the table Special_Facility. `data_b` has five letters of A to Z."""
 
     s_id: int
     sf_type: int
@@ -71,7 +71,7 @@ class Facility:
 
 @dataclass(frozen=True)
 class Region:
-    """Subscribers from `lo` on and below `hi`, and who has them: a part, or a loose piece."""
+    """The subscribers from `lo` on and below `hi`, and the part or the loose piece that has them."""
 
     lo: int
     hi: int
@@ -81,7 +81,7 @@ class Region:
 
 @dataclass(frozen=True)
 class Cell:
-    """A count: what is published of it, and what isn't posted yet. They add up to the count over the rows now."""
+    """A live count. What is published and what is unposted add up to the count over the rows now."""
 
     number: int
     kind: Kind
@@ -100,7 +100,7 @@ _NAMES = list(_names())
 
 
 def _number(value: int) -> int:
-    """A number of 64 bits. ctypes would cut off what is more."""
+    """Checks that a number has at most 64 bits, because ctypes would cut off the rest."""
     if not 0 <= index(value) < 1 << 64:
         raise Field(f"{value} is no number of 64 bits")
     return index(value)
@@ -146,7 +146,7 @@ def _region(row: c.RegionRow) -> Region:
 
 
 def _ready(value: object) -> object:
-    """What a call is passed: an int as 64 bits, and all else by reference, in the structure of hlr.h."""
+    """Makes what a call is passed: an int as 64 bits, and everything else by reference, in the structure of hlr.h."""
     if isinstance(value, Subscriber):
         value = c.SubscriberRow(_number(value.s_id), _number(value.sub_nbr), _ten(value.bits), _ten(value.hexes),
                                 _ten(value.octets), _number(value.msc_location), _number(value.vlr_location))
@@ -168,7 +168,7 @@ def _ready(value: object) -> object:
 
 
 def _found(read: Callable[..., Any], missing: Type[Refused], asked: Iterable[Tuple[int, ...]]) -> List[Any]:
-    """What is read for each question, but for those that are answered by this exception."""
+    """Reads each query, and leaves out those that raise this exception."""
     rows = []
     for each in asked:
         try:
@@ -179,7 +179,7 @@ def _found(read: Callable[..., Any], missing: Type[Refused], asked: Iterable[Tup
 
 
 class _Open:
-    """What has a handle of the library. A lock lets one call at a time through."""
+    """An object with a handle of the library. A lock lets one call at a time through."""
 
     _closing = "close"
 
@@ -189,7 +189,7 @@ class _Open:
         self._handle: Any = None
 
     def _named(self, name: str) -> str:
-        """What hlr.h names a call."""
+        """Returns the name of a call in hlr.h."""
         return "hlr_" + name
 
     def _call(self, name: str, *passed: object) -> None:
@@ -211,7 +211,7 @@ class _Open:
             raise refusal(Code.NOT_OPEN, name)
 
     def _many(self, name: str, question: Any, asked: Sequence[Tuple[int, ...]], answer: Any, told: Any) -> List[Any]:
-        """Has many questions answered in one call: each by what is told of its answer, or by its exception."""
+        """Makes one call for many queries, and returns the result or the exception of each."""
         many = name + "_many"
         self._check_open(many)
         count = len(asked)
@@ -238,18 +238,18 @@ class _Open:
 
 
 class Register(_Open):
-    """A register. `parts`, 1 to 16, share its subscribers, in 32 zones of `width` subscribers each, 1 to 524288.
+    """A register of subscribers. Its `parts`, 1 to 16, share 32 zones of `width` subscribers each, 1 to 524288.
 
-    It is closed by `close`, or as its `with` ends; each call on a closed one raises NotOpen.
+    Close a register with `close`, or use it in a `with`. Each call on a closed register raises NotOpen.
 
-    Threads may share a register: a lock lets one call at a time through. What doesn't call it runs on meanwhile, as a
-    call lets go of the interpreter's lock. `lend` gives a thread a part for itself; a call on the register that works
-    on that part raises Away then.
+    Threads may share a register, because a lock lets one call at a time through. A call releases the interpreter's
+    lock, so other threads run meanwhile. `lend` gives a thread a part to itself; until that part is back, a call on the
+    register that needs it raises Away.
 
-    Each call tells what it raises; of several that apply, it is the first one. A number that is negative or has no room
-    in 64 bits is refused with Field by each call, as is one out of its range: s_id 1 to 16777216; sub_nbr and numberx
-    below 10^15; ai_type and sf_type 1 to 4; start_time 0, 8 or 16; end_time 1 to 24; locations 1 to 4294967295. What is
-    no number, row or letters at all raises TypeError.
+    Each call says what it raises. If several of these apply, it raises the first one. Each call raises Field for a
+    number that is negative or has more than 64 bits, and for one that is out of its range: s_id 1 to 16777216; sub_nbr
+    and numberx below 10^15; ai_type and sf_type 1 to 4; start_time 0, 8 or 16; end_time 1 to 24; locations 1 to
+    4294967295. Anything that isn't a number, a row or letters at all raises TypeError.
 
     >>> register = Register(parts=2, width=4)
     >>> register.close()
@@ -268,11 +268,11 @@ class Register(_Open):
         self._handle = handle
 
     def close(self) -> None:
-        """Gives back all memory of the register. Parts that are out go on."""
+        """Closes the register, and gives back all of its memory. Parts that are lent keep working."""
         self._call("close")
 
     def held(self) -> ContextManager[Any]:
-        """Keeps the calls of other threads out, while its `with` lasts."""
+        """Keeps out the calls of other threads, as long as its `with` lasts."""
         self._check_open("held")
         return self._lock
 
@@ -281,7 +281,7 @@ class Register(_Open):
         return self
 
     def subscriber_data(self, s_id: int) -> Subscriber:
-        """GET_SUBSCRIBER_DATA: reads a row. Raises Field, Moving, Away, NoSubscriber.
+        """Reads a subscriber (GET_SUBSCRIBER_DATA). Raises Field, Moving, Away, NoSubscriber.
 
         >>> with Register() as register:
         ...     register.add_subscriber(Subscriber(7, 77, bits=bytes([1, 0, 0, 0, 0, 0, 0, 0, 0, 1])))
@@ -294,8 +294,9 @@ class Register(_Open):
         return _subscriber(row)
 
     def new_destination(self, s_id: int, sf_type: int, start_time: int, end_time: int) -> List[int]:
-        """GET_NEW_DESTINATION: tells the numbers that an active facility forwards to, of its forwardings that start by
-        start_time and end after end_time, by their start. Raises Field, Moving, Away, NoDestination.
+        """Returns the numbers that an active facility forwards a call to (GET_NEW_DESTINATION): those of its
+        forwardings that start by start_time and end after end_time, in the order of their starts. Raises Field, Moving,
+        Away, NoDestination.
 
         >>> with Register() as register:
         ...     register.add_subscriber(Subscriber(7, 77))
@@ -309,7 +310,7 @@ class Register(_Open):
         return _listed(numbers)
 
     def access_data(self, s_id: int, ai_type: int) -> Access:
-        """GET_ACCESS_DATA: reads a row. Raises Field, Moving, Away, NoAccess.
+        """Reads an access (GET_ACCESS_DATA). Raises Field, Moving, Away, NoAccess.
 
         >>> with Register() as register:
         ...     register.add_subscriber(Subscriber(7, 77))
@@ -328,20 +329,20 @@ class Register(_Open):
         return s_id.value
 
     def facility_data(self, s_id: int, sf_type: int) -> Facility:
-        """Reads a row. Raises Field, Moving, Away, NoFacility."""
+        """Reads a facility. Raises Field, Moving, Away, NoFacility."""
         row = c.FacilityRow()
         self._call("facility_data", s_id, sf_type, row)
         return _facility(row)
 
     def forwarding(self, s_id: int, sf_type: int, start_time: int) -> Tuple[int, int]:
-        """Tells the end_time and the numberx of a facility's forwarding. Raises Field, Moving, Away,
+        """Returns the end_time and the numberx of a facility's forwarding. Raises Field, Moving, Away,
         NoForwarding."""
         end_time, numberx = ctypes.c_uint64(), ctypes.c_uint64()
         self._call("forwarding", s_id, sf_type, start_time, end_time, numberx)
         return end_time.value, numberx.value
 
     def next_subscriber(self, s_id: int) -> Subscriber:
-        """Reads the first row with an s_id from this one on. Raises Away, NoSubscriber.
+        """Reads the first subscriber with this s_id or a higher one. Raises Away, NoSubscriber.
 
         >>> with Register() as register:
         ...     register.add_subscriber(Subscriber(7, 77))
@@ -353,7 +354,8 @@ class Register(_Open):
         return _subscriber(row)
 
     def subscribers(self, s_id: int = 1) -> Iterator[Subscriber]:
-        """Reads all rows with an s_id from this one on, in order, each as it is asked for. Raises Away.
+        """Iterates over all subscribers from this s_id on, in order, and reads each one as it is asked for. Raises
+        Away.
 
         >>> with Register() as register:
         ...     register.add_subscriber(Subscriber(70, 70))
@@ -374,16 +376,16 @@ class Register(_Open):
             s_id = row.s_id + 1
 
     def accesses(self, s_id: int) -> List[Access]:
-        """Reads a subscriber's accesses, by ai_type. Raises Field, Moving, Away."""
+        """Reads the accesses of a subscriber, in the order of ai_type. Raises Field, Moving, Away."""
         return _found(self.access_data, NoAccess, [(s_id, ai_type) for ai_type in range(1, 5)])
 
     def facilities(self, s_id: int) -> List[Facility]:
-        """Reads a subscriber's facilities, by sf_type. Raises Field, Moving, Away."""
+        """Reads the facilities of a subscriber, in the order of sf_type. Raises Field, Moving, Away."""
         return _found(self.facility_data, NoFacility, [(s_id, sf_type) for sf_type in range(1, 5)])
 
     def forwardings(self, s_id: int, sf_type: int) -> List[Tuple[int, int, int]]:
-        """Tells the start_time, the end_time and the numberx of a facility's forwardings, by start_time. Raises Field,
-        Moving, Away.
+        """Returns the start_time, end_time and numberx of each forwarding of a facility, in the order of start_time.
+        Raises Field, Moving, Away.
 
         >>> with Register() as register:
         ...     register.add_subscriber(Subscriber(7, 77))
@@ -397,8 +399,8 @@ class Register(_Open):
         return _found(read, NoForwarding, [(0,), (8,), (16,)])
 
     def subscriber_data_many(self, s_ids: Sequence[int]) -> List[Union[Subscriber, Refused]]:
-        """Reads many rows in one call: for each s_id the row, or the exception that `subscriber_data` raises. None
-        is read where a number is negative or has no room in 64 bits. Raises Field.
+        """Reads many subscribers in one call: for each s_id it returns the row, or the exception that `subscriber_data`
+        raises. It reads nothing if a number is negative or has more than 64 bits. Raises Field.
 
         >>> with Register() as register:
         ...     register.add_subscriber(Subscriber(7, 77))
@@ -409,59 +411,60 @@ class Register(_Open):
         return self._many("subscriber_data", ctypes.c_uint64, [(s_id,) for s_id in s_ids], c.SubscriberRow, _subscriber)
 
     def new_destination_many(self, asked: Sequence[Tuple[int, int, int, int]]) -> List[Union[List[int], Refused]]:
-        """Reads many numbers in one call: for each s_id, sf_type, start_time and end_time the numbers, or the exception
-        that `new_destination` raises. Raises Field."""
+        """Answers many calls at once: for each s_id, sf_type, start_time and end_time it returns the numbers, or the
+        exception that `new_destination` raises. Raises Field."""
         return self._many("new_destination", c.DestinationAsked, asked, c.Numbers, _listed)
 
     def access_data_many(self, asked: Sequence[Tuple[int, int]]) -> List[Union[Access, Refused]]:
-        """Reads many rows in one call: for each s_id and ai_type the row, or the exception that `access_data` raises.
-        Raises Field."""
+        """Reads many accesses in one call: for each s_id and ai_type it returns the row, or the exception that
+        `access_data` raises. Raises Field."""
         return self._many("access_data", c.AccessAsked, asked, c.AccessRow, _access)
 
     def update_subscriber(self, s_id: int, sf_type: int, bit_1: int, data_a: int) -> None:
-        """UPDATE_SUBSCRIBER_DATA: sets bit_1 of the subscriber and data_a of the facility, or neither. Raises Field,
+        """Sets bit_1 of the subscriber and data_a of the facility, or neither (UPDATE_SUBSCRIBER_DATA). Raises Field,
         Moving, Away, NoSubscriber, NoFacility."""
         self._call("update_subscriber", s_id, sf_type, bit_1, data_a)
 
     def update_location(self, sub_nbr: int, vlr_location: int) -> None:
-        """UPDATE_LOCATION: moves the subscriber with a number. Raises Field, NoNumber, Moving, Away."""
+        """Sets the location of the subscriber with this number (UPDATE_LOCATION). Raises Field, NoNumber, Moving,
+        Away."""
         self._call("update_location", sub_nbr, vlr_location)
 
     def insert_forwarding(self, sub_nbr: int, sf_type: int, start_time: int, end_time: int, numberx: int) -> None:
-        """INSERT_CALL_FORWARDING: adds a forwarding of the subscriber with a number, to numberx. Raises Field,
+        """Adds a forwarding to numberx for the subscriber with this number (INSERT_CALL_FORWARDING). Raises Field,
         NoNumber, Moving, Away, NoFacility, Exists, Memory."""
         self._call("insert_forwarding", sub_nbr, sf_type, start_time, end_time, numberx)
 
     def delete_forwarding(self, sub_nbr: int, sf_type: int, start_time: int) -> None:
-        """DELETE_CALL_FORWARDING: takes a forwarding away from the subscriber with a number. Raises Field, NoNumber,
+        """Removes a forwarding of the subscriber with this number (DELETE_CALL_FORWARDING). Raises Field, NoNumber,
         Moving, Away, NoForwarding."""
         self._call("delete_forwarding", sub_nbr, sf_type, start_time)
 
     def add_subscriber(self, row: Subscriber) -> None:
-        """Adds a row. Raises Field, Moving, Away, Exists, NumberTaken, Memory."""
+        """Adds a subscriber. Raises Field, Moving, Away, Exists, NumberTaken, Memory."""
         self._call("add_subscriber", row)
 
     def add_access(self, row: Access) -> None:
-        """Adds a row. Raises Field, Moving, Away, NoSubscriber, Exists, Memory."""
+        """Adds an access. Raises Field, Moving, Away, NoSubscriber, Exists, Memory."""
         self._call("add_access", row)
 
     def add_facility(self, row: Facility) -> None:
-        """Adds a row. Raises Field, Moving, Away, NoSubscriber, Exists, Memory."""
+        """Adds a facility. Raises Field, Moving, Away, NoSubscriber, Exists, Memory."""
         self._call("add_facility", row)
 
     def set_active(self, s_id: int, sf_type: int, is_active: bool) -> None:
-        """Switches a facility on or off, and with it all its forwardings. Raises Field, Moving, Away,
+        """Switches a facility on or off, and with it all of its forwardings. Raises Field, Moving, Away,
         NoFacility."""
         self._call("set_active", s_id, sf_type, is_active)
 
     def set_number(self, s_id: int, sub_nbr: int) -> None:
-        """Gives a subscriber another number; nothing changes where it is the one that stands. Raises Field, Moving,
-        Away, NoSubscriber, NumberTaken, Memory."""
+        """Gives a subscriber another number. The number that the subscriber already has changes nothing. Raises Field,
+        Moving, Away, NoSubscriber, NumberTaken, Memory."""
         self._call("set_number", s_id, sub_nbr)
 
     def post(self, part: int, limit: int = CELLS) -> int:
-        """Posts the first limit cells of a part that aren't posted, and tells how many were. Raises NoPart, Away, Worn;
-        after Worn the cells that were posted before stand.
+        """Posts the first `limit` unposted cells of a part, and returns how many it posted. Raises NoPart, Away, Worn;
+        after Worn, the cells that it posted before stay posted.
 
         >>> with Register() as register:
         ...     register.add_subscriber(Subscriber(7, 77))
@@ -473,7 +476,7 @@ class Register(_Open):
         return posted.value
 
     def views(self) -> Tuple[List[int], List[int]]:
-        """Tells each cell as published, and what isn't posted of it yet. No row is read. Raises Away.
+        """Returns the published and the unposted count of each cell, without reading a row. Raises Away.
 
         >>> with Register() as register:
         ...     register.add_subscriber(Subscriber(7, 77))
@@ -486,7 +489,7 @@ class Register(_Open):
         return list(published), list(unposted)
 
     def cells(self) -> Iterator[Cell]:
-        """Tells the cells of `views`, by their names. Raises Away.
+        """Iterates over the cells of `views`, with their names. Raises Away.
 
         >>> with Register() as register:
         ...     names = [cell.name for cell in register.cells()]
@@ -497,8 +500,8 @@ class Register(_Open):
         return (Cell(number, *_NAMES[number], published[number], unposted[number]) for number in range(CELLS))
 
     def look(self) -> List[int]:
-        """Tells each cell as published now, whichever parts are out. Parts post meanwhile, so the cells are of no one
-        moment.
+        """Returns the published count of each cell, no matter which parts are lent. Parts may post meanwhile, so the
+        counts don't belong to one moment.
 
         >>> with Register() as register:
         ...     register.add_subscriber(Subscriber(7, 77))
@@ -513,15 +516,15 @@ class Register(_Open):
         return list(published)
 
     def scan(self) -> List[int]:
-        """Counts each cell anew, by a walk over all rows. Raises Away."""
+        """Counts each cell anew, by a walk over all rows, and returns the counts. Raises Away."""
         counts = (ctypes.c_uint64 * CELLS)()
         self._call("scan", counts)
         return list(counts)
 
     def give(self, part: int, side: int, at: int) -> Region:
-        """Has a part give away its subscribers below at (Side.LOW) or from at on (Side.HIGH), as a loose piece. While
-        it is loose, its subscribers are answered Moving. Raises Field, NoPart, OutOfRange, ManyPieces, Away,
-        Memory.
+        """Cuts a loose piece off a part: its subscribers below `at` (Side.LOW) or from `at` on (Side.HIGH), and returns
+        it. Until a part takes the piece, calls for its subscribers raise Moving. Raises Field, NoPart, OutOfRange,
+        ManyPieces, Away, Memory.
 
         >>> with Register(parts=2, width=4) as register:
         ...     register.give(0, Side.HIGH, 5)
@@ -535,25 +538,25 @@ class Register(_Open):
         return _region(given)
 
     def take(self, piece: int, part: int) -> None:
-        """Has a part take a loose piece that touches it. Raises NoPiece, NoPart, NotAdjacent, Away, Memory."""
+        """Joins a loose piece to a part that touches it. Raises NoPiece, NoPart, NotAdjacent, Away, Memory."""
         self._call("take", piece, part)
 
     def divide(self, part: int, at: int) -> Region:
-        """Divides a part: it keeps what is below at, and a new part with the next number has the rest. Later parts'
-        numbers rise by one. Tells the new part. Raises NoPart, OutOfRange, ManyParts, Away, Memory."""
+        """Divides a part: it keeps what is below `at`, and a new part with the next number gets the rest. The numbers
+        of later parts rise by one. Returns the new part. Raises NoPart, OutOfRange, ManyParts, Away, Memory."""
         made = c.RegionRow()
         self._call("divide", part, at, made)
         return _region(made)
 
     def dissolve(self, part: int) -> Region:
-        """Dissolves a part: the part in front has its rows. Later parts' numbers fall by one. Tells the part in front
-        as it is then. Raises NoPart, NotAdjacent, Away, Memory."""
+        """Dissolves a part: the part in front gets its rows, and the numbers of later parts fall by one. Returns the
+        part in front as it is then. Raises NoPart, NotAdjacent, Away, Memory."""
         front = c.RegionRow()
         self._call("dissolve", part, front)
         return _region(front)
 
     def regions(self) -> List[Region]:
-        """Tells all regions, in order.
+        """Returns all regions, in order.
 
         >>> with Register() as register:
         ...     register.regions()
@@ -564,16 +567,16 @@ class Register(_Open):
         return [_region(row) for row in regions.regions[:regions.count]]
 
     def propose(self) -> List[int]:
-        """Tells the bounds between zones that would give each part about its share of the rows, as they are published:
-        post every part first. Raises Away."""
+        """Returns bounds between zones by which each part would have about its share of the published rows, so post
+        every part first. Raises Away."""
         bounds = c.Bounds()
         self._call("propose", bounds)
         return list(bounds.bounds[:bounds.count])
 
     def recut(self, bounds: Sequence[int]) -> int:
-        """Moves the bounds between parts to these, and tells how many were moved. A bound is the first subscriber of a
-        part but the first. Raises Field, Moving, Away, Memory; after Memory the moves that were done stand, and the
-        piece of the next one may be loose.
+        """Moves the bounds between parts to these, and returns how many it moved. A bound is the first subscriber of a
+        part other than the first part. Raises Field, Moving, Away, Memory; after Memory, the bounds that it moved
+        before stay moved, and the piece of the next one may be loose.
 
         >>> with Register(parts=2, width=4) as register:
         ...     register.recut([9]), register.recut([9])
@@ -584,7 +587,7 @@ class Register(_Open):
         return moved.value
 
     def lend(self, part: int) -> "Part":
-        """Lends a part, which then works in whatever thread. Raises NoPart, Away, Memory.
+        """Lends a part to any thread. Raises NoPart, Away, Memory.
 
         >>> with Register(parts=2) as register:
         ...     register.add_subscriber(Subscriber(7, 77))
@@ -599,21 +602,21 @@ class Register(_Open):
         return Part(handle)
 
     def back(self, part: int) -> None:
-        """Takes a part in that was sent home; nothing is done where it is at home already. Raises NoPart, Away."""
+        """Takes in a part that was sent home, and does nothing if the part is home already. Raises NoPart, Away."""
         self._call("back", part)
 
 
 class Part(_Open):
-    """A part that is out, as `Register.lend` gives it: the calls on its rows, by s_id, for whatever thread.
+    """A lent part, which `Register.lend` returns: it has the calls on the part's rows, by s_id, for any thread.
 
-    It is sent home by `home`, or as its `with` ends; each call on it raises NotOpen then. The register may be closed
-    before. Numbers and rows are refused as a register refuses them.
+    Send it home with `home`, or use it in a `with`; after that, each call on it raises NotOpen. The register may be
+    closed before. Numbers and rows out of range are refused as a register refuses them.
     """
 
     _closing = "home"
 
     def __init__(self, handle: c.PartHandle) -> None:
-        """Has a part that a register lent."""
+        """Wraps the handle of a part that a register has lent."""
         super().__init__()
         self._handle = handle
 
@@ -629,32 +632,34 @@ class Part(_Open):
         self._call("home")
 
     def range(self) -> Tuple[int, int]:
-        """The first subscriber of the part, and the number behind the last one. They stay while it is out."""
+        """Returns the first subscriber of the part and the number behind the last one. Neither changes while it is
+        lent."""
         lo, hi = ctypes.c_uint64(), ctypes.c_uint64()
         self._call("range", lo, hi)
         return lo.value, hi.value
 
     def subscriber_data(self, s_id: int) -> Subscriber:
-        """GET_SUBSCRIBER_DATA: reads a row. Raises Field, Elsewhere, NoSubscriber."""
+        """Reads a subscriber (GET_SUBSCRIBER_DATA). Raises Field, Elsewhere, NoSubscriber."""
         row = c.SubscriberRow()
         self._call("subscriber_data", s_id, row)
         return _subscriber(row)
 
     def new_destination(self, s_id: int, sf_type: int, start_time: int, end_time: int) -> List[int]:
-        """GET_NEW_DESTINATION: the numbers that an active facility forwards to. Raises Field, Elsewhere,
-        NoDestination."""
+        """Returns the numbers that an active facility forwards a call to (GET_NEW_DESTINATION), as
+        `Register.new_destination` does. Raises Field, Elsewhere, NoDestination."""
         numbers = c.Numbers()
         self._call("new_destination", s_id, sf_type, start_time, end_time, numbers)
         return _listed(numbers)
 
     def access_data(self, s_id: int, ai_type: int) -> Access:
-        """GET_ACCESS_DATA: reads a row. Raises Field, Elsewhere, NoAccess."""
+        """Reads an access (GET_ACCESS_DATA). Raises Field, Elsewhere, NoAccess."""
         row = c.AccessRow()
         self._call("access_data", s_id, ai_type, row)
         return _access(row)
 
     def subscriber_data_many(self, s_ids: Sequence[int]) -> List[Union[Subscriber, Refused]]:
-        """Reads many rows in one call, as `Register.subscriber_data_many`: some may be Elsewhere. Raises Field.
+        """Reads many subscribers in one call, as `Register.subscriber_data_many` does; some may be Elsewhere. Raises
+        Field.
 
         >>> with Register(parts=2, width=4) as register:
         ...     with register.lend(0) as part:
@@ -664,45 +669,46 @@ class Part(_Open):
         return self._many("subscriber_data", ctypes.c_uint64, [(s_id,) for s_id in s_ids], c.SubscriberRow, _subscriber)
 
     def new_destination_many(self, asked: Sequence[Tuple[int, int, int, int]]) -> List[Union[List[int], Refused]]:
-        """Reads many numbers in one call, as `Register.new_destination_many`. Raises Field."""
+        """Answers many calls at once, as `Register.new_destination_many` does. Raises Field."""
         return self._many("new_destination", c.DestinationAsked, asked, c.Numbers, _listed)
 
     def access_data_many(self, asked: Sequence[Tuple[int, int]]) -> List[Union[Access, Refused]]:
-        """Reads many rows in one call, as `Register.access_data_many`. Raises Field."""
+        """Reads many accesses in one call, as `Register.access_data_many` does. Raises Field."""
         return self._many("access_data", c.AccessAsked, asked, c.AccessRow, _access)
 
     def update_subscriber(self, s_id: int, sf_type: int, bit_1: int, data_a: int) -> None:
-        """UPDATE_SUBSCRIBER_DATA: sets bit_1 of the subscriber and data_a of the facility, or neither. Raises Field,
+        """Sets bit_1 of the subscriber and data_a of the facility, or neither (UPDATE_SUBSCRIBER_DATA). Raises Field,
         Elsewhere, NoSubscriber, NoFacility."""
         self._call("update_subscriber", s_id, sf_type, bit_1, data_a)
 
     def update_location(self, s_id: int, vlr_location: int) -> None:
-        """UPDATE_LOCATION: moves a subscriber. Raises Field, Elsewhere, NoSubscriber."""
+        """Sets the location of a subscriber (UPDATE_LOCATION). Raises Field, Elsewhere, NoSubscriber."""
         self._call("update_location", s_id, vlr_location)
 
     def insert_forwarding(self, s_id: int, sf_type: int, start_time: int, end_time: int, numberx: int) -> None:
-        """INSERT_CALL_FORWARDING: adds a forwarding to numberx. Raises Field, Elsewhere, NoFacility, Exists, Memory."""
+        """Adds a forwarding to numberx (INSERT_CALL_FORWARDING). Raises Field, Elsewhere, NoFacility, Exists,
+        Memory."""
         self._call("insert_forwarding", s_id, sf_type, start_time, end_time, numberx)
 
     def delete_forwarding(self, s_id: int, sf_type: int, start_time: int) -> None:
-        """DELETE_CALL_FORWARDING: takes a forwarding away. Raises Field, Elsewhere, NoForwarding."""
+        """Removes a forwarding (DELETE_CALL_FORWARDING). Raises Field, Elsewhere, NoForwarding."""
         self._call("delete_forwarding", s_id, sf_type, start_time)
 
     def set_active(self, s_id: int, sf_type: int, is_active: bool) -> None:
-        """Switches a facility on or off, and with it all its forwardings. Raises Field, Elsewhere, NoFacility."""
+        """Switches a facility on or off, and with it all of its forwardings. Raises Field, Elsewhere, NoFacility."""
         self._call("set_active", s_id, sf_type, is_active)
 
     def add_access(self, row: Access) -> None:
-        """Adds a row. Raises Field, Elsewhere, NoSubscriber, Exists, Memory."""
+        """Adds an access. Raises Field, Elsewhere, NoSubscriber, Exists, Memory."""
         self._call("add_access", row)
 
     def add_facility(self, row: Facility) -> None:
-        """Adds a row. Raises Field, Elsewhere, NoSubscriber, Exists, Memory."""
+        """Adds a facility. Raises Field, Elsewhere, NoSubscriber, Exists, Memory."""
         self._call("add_facility", row)
 
     def post(self, limit: int = CELLS) -> int:
-        """Posts the first limit cells of the part that aren't posted, and tells how many were. Raises Worn; after it
-        the cells that were posted before stand."""
+        """Posts the first `limit` unposted cells of the part, and returns how many it posted. Raises Worn; after that,
+        the cells that it posted before stay posted."""
         posted = ctypes.c_uint64()
         self._call("post", limit, posted)
         return posted.value

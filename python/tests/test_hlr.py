@@ -426,7 +426,7 @@ class Refusals(unittest.TestCase):
                 print(refused, int(refused.code))
                 print(register.scan()[24] == s_id - 1, sum(register.views()[1][40:]) == s_id - 1)
             """)
-        self.assertEqual((status, out, err), (0, "add_subscriber: no memory was left 1\nTrue True\n", ""))
+        self.assertEqual((status, out, err), (0, "add_subscriber: no memory was left; free some, and call again 1\nTrue True\n", ""))
 
     def test_closed(self):
         register = Register()

@@ -20,7 +20,7 @@ shown() {
 }
 
 # at_top COMMAND: whether it names a path of the repository.
-at_top() { grep -qE '(^|[^A-Za-z0-9_/.-])(\./)?(bench|crates|docs|examples|python|tests|tools)/|\./[a-z]+\.sh' <<< "$1"; }
+at_top() { grep -qE '(^|[^A-Za-z0-9_/.-])(\./)?(bench|crates|docs|examples|python|tests|tools)/|\./[a-z]+\.sh|=python ' <<< "$1"; }
 
 # needs COMMAND: whether the built programs that it names are there.
 needs() {
