@@ -60,7 +60,7 @@ def counts():
     picture.arrow(135, 122, 135, 134)
     picture.text(142, 131, "give", 12, color=MARK)
     picture.text(142, 216, "take", 12, color=MARK)
-    picture.text(20, 20, "divide: a part more, with a free slot; dissolve: one part fewer", 12, color=MARK)
+    picture.text(20, 20, "divide adds a part, which gets a free slot; dissolve removes one", 12, color=MARK)
     return picture
 
 
