@@ -1,6 +1,7 @@
 #!/usr/bin/env bash
 # What the pages say of the repository, and how they are written. tools/prose.py and tools/pages.py say what they check.
 . "$(dirname "$0")/lib.sh" || exit 1
+top=$PWD
 
 # says_nothing WHAT COMMAND ..: a command that checks finds nothing wrong.
 says_nothing() {
@@ -40,6 +41,39 @@ orders() {
   same 'the first refusal is answered' "$room/found" "$room/wanted"
 }
 
+# The checks of the pages find what is wrong: each fault of a small repository of faulty pages is told.
+faults() {
+  local long
+  mkdir -p "$room/faulty/docs" "$room/faulty/tests/outside" "$room/faulty/crates/one/src"
+  cp tests/outside/words.txt "$room/faulty/tests/outside/"
+  echo 'known' > "$room/faulty/tests/outside/names.txt"
+  touch "$room/faulty/"{dist.sh,test.sh,crates.txt,HANDLES,CONTRIBUTING.md,CHANGELOG.md}
+  long=$(printf 'word %.0s' {1..41})
+  cat > "$room/faulty/README.md" << END
+# One
+
+It stands beside the river that flows by here. A [link](docs/NONE.md) and [one](docs/TWO.md#three).
+
+$long.
+
+The name \`un_known\` and the file \`none.rt\` lie in crates/none/.
+
+\`\`\`c
+int none;
+\`\`\`
+END
+  printf '%s\n' '# Two' '' 'Nothing stands beside the river that flows by here.' > "$room/faulty/docs/TWO.md"
+  (cd "$room/faulty" && { python3 "$top/tools/prose.py"; python3 "$top/tools/pages.py"; }) > "$room/found" 2>&1
+  printf '%s\n' "docs/TWO.md:3 and README.md:3 both say 'stands beside the river that flows by'" \
+    'README.md:5: 41 words in a sentence: word word word word word word word word word word word word ..' \
+    "README.md:3: say 'compared with, apart from, or another plain preposition', and not 'beside'" \
+    "docs/TWO.md:3: say 'compared with, apart from, or another plain preposition', and not 'beside'" \
+    'README.md:3: there is no docs/NONE.md' 'README.md:3: docs/TWO.md has no heading #three' \
+    'README.md:3: there is no docs/NONE.md' 'README.md:7: there is no crates/none/' 'README.md:7: nothing is called un_known' \
+    'README.md:7: no crate has a file none.rt' 'README.md:9: these lines of c stand in no file of the examples' > "$room/wanted"
+  same 'what the checks of the pages find' "$room/found" "$room/wanted"
+}
+
 is 'no page has a mark to be filled in' "$(grep -n '@@' README.md CONTRIBUTING.md CHANGELOG.md docs/*.md)" ''
 tool python3 'the pages, their pictures, heads of specs, and orders of refusals' || finish
 pictures
@@ -47,6 +81,7 @@ for script in prose.py pages.py heads.py 'definitions.py --check'; do
   # shellcheck disable=SC2086
   says_nothing "tools/$script" python3 tools/$script
 done
+faults
 if program_built; then
   hlr_on --help < /dev/null
   cp "$room/out" "$room/help"
