@@ -20,6 +20,7 @@ SOURCES = ["crates", "examples", "python", "bench", "tests", "tools", "dist.sh",
 SHOWN = ["examples", "crates/hlr_example/src", "crates/hlr_example/specs"]
 LANGUAGES = {"c", "cpp", "python", "rust", "csv"}
 FOLDERS = "bench|crates|docs|examples|python|tests|tools"
+SOURCE = r"(?!crates/|src/|specs/|proofs/)[\w/]+\.(rt|antt)"
 # what pages name that isn't in the sources: options and variables of other programs, and names of the kit
 ELSEWHERE = Path("tests/outside/names.txt")
 
@@ -115,8 +116,7 @@ def check_names(page, names):
             for name in re.findall(r"\w+", code):
                 if looks_like_name(name) and name not in names:
                     yield f"{page}:{number}: nothing is called {name}"
-            is_source = re.fullmatch(r"[\w/]+\.(rt|antt)", code) and not re.match(r"crates/|src/|specs/|proofs/", code) and not re.search(r"[A-Z]{3}", code)
-            if is_source and not source_file(code):
+            if re.fullmatch(SOURCE, code) and not re.search(r"[A-Z]{3}", code) and not source_file(code):
                 yield f"{page}:{number}: no crate has a file {code}"
 
 
@@ -132,7 +132,8 @@ def check_code(page, files):
 def main():
     pages = sorted({page for it in PAGES for page in Path().glob(it)})
     names, wrong = known_names(), []
-    files = [path.read_text(encoding="utf-8", errors="replace") for folder in SHOWN for path in Path(folder).rglob("*") if path.is_file()]
+    shown = [path for folder in SHOWN for path in Path(folder).rglob("*") if path.is_file()]
+    files = [path.read_text(encoding="utf-8", errors="replace") for path in shown]
     for page in pages:
         wrong += [*check_links(page), *check_paths(page), *check_names(page, names), *check_code(page, files)]
     print(*wrong, sep="\n", end="\n" if wrong else "")

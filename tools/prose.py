@@ -13,10 +13,9 @@ It prints what is wrong, a line each, and ends with status 1 if there is anythin
 The prose of a page is its paragraphs and the items of its lists. Fenced and indented code, tables, headings, comments and
 pictures are no prose. An item that doesn't end in a full stop, a question mark or a colon is an entry of a list of names,
 so its length isn't counted; nor is that of a bold phrase that stands in front of a paragraph as its heading. A sentence
-ends at '.', '?', '!' or ':' where a space and then a capital letter, a digit, a quote, a bracket, an asterisk or code
-follow, and at the end of its paragraph or item. A colon ends one only at the end of a paragraph. A word is a run of
-characters without a space that has a letter or a digit. Code between backticks is one word, and a link is the words that
-it shows.
+ends at '.', '?' or '!' where a space and then a capital letter, a digit, a quote, a bracket, an asterisk or code follow,
+and at the end of its paragraph or item, where a colon may end it too. A word is a run of characters without a space that
+has a letter or a digit. Code between backticks is one word, and a link is the words that it shows.
 
 For the fourth check headings and the cells of tables count as well. Case and punctuation don't matter there.
 """
