@@ -1,7 +1,8 @@
 //! The nodes of a tree of rows: at most 32 entries or children each, with the meter that counts every node that is
-//! taken apart or built, and the stock of blank nodes from which trees grow. A call on a key goes down one path, tests
-//! thirteen keys a node at most, and takes memory only where the stock is filled. An inner node keeps each child's
-//! least key and count of rows: whoever changes a child by hand has to set both anew.
+//! taken apart or built, and the stock of blank nodes from which trees grow. A call on a key goes down one path and
+//! compares at most thirteen keys in each node: eleven for the search, one at the place that it finds, and one at the
+//! place that a guess names. It takes memory only where the stock is filled. An inner node keeps each child's least key
+//! and count of rows, so code that changes a child has to set both anew.
 #![tactic(auto)]
 
 mod body;

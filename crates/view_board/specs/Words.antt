@@ -36,7 +36,7 @@ is_worn words slot cell amount = nat_lt LIMIT (slice_index words (word_of slot c
 abbrev pub slot_net : List ℕ → ℕ → ℕ → ℤ
 slot_net words cell slot = pos (slice_index words (plus_word slot cell)) -ℤ pos (slice_index words (minus_word slot cell))
 
--- a number for each word, and a flag for each slot
+-- a number for each word
 unfoldable pub each_word : (ℕ → ℕ) → List ℕ
 each_word number = map number (range_with_len 0 WORDS)
 
