@@ -41,7 +41,7 @@ pub use Rattle.hlr_owners.specs.Gather.{gathered, states_of}
 pub use Rattle.hlr_owners.specs.Held.{OwnerState, of_holding, of_piece}
 pub use Rattle.hlr_owners.specs.Out.{outs_in, with_outs}
 pub use Rattle.hlr_owners.specs.Owners.{AllHome, AreOwners, IsHomeFor, IsHomeFrom, IsLaterOwner, IsLent, IsPartHome, OwnersState, book_in, desks_in, homes_in, part_holdings, state_of, states_in, store_in}
-pub use Rattle.hlr_owners.specs.PartChanges.{IsDissolved, IsDissolvedWhileOut, IsDivided, IsDividedWhileOut, IsWithNew, IsWithout}
+pub use Rattle.hlr_owners.specs.PartChanges.{AreHomesDissolved, AreHomesDivided, IsDissolved, IsDissolvedWhileOut, IsDivided, IsDividedWhileOut, IsWithNew, IsWithout}
 pub use Rattle.hlr_owners.specs.PartOwnerState.{PartOwnerState}
 pub use Rattle.hlr_owners.specs.Posting.{IsPosting}
 pub use Rattle.hlr_owners.specs.Read.{HasRowsOf, IsRead}
@@ -100,13 +100,14 @@ pub use Rattle.view_board.specs.Words.{minus_word, plus_word}
 pub use Rattle.hlr_core.specs.Gather.{IsRefusedWhole, rows_of_all}
 pub use Rattle.hlr_core.specs.Home.{AreHome, AreHomesAfter, HaveSameHomes, IsBearerHome, IsHomeTo, IsLaterDesk}
 pub use Rattle.hlr_core.specs.Index.{IsRegister, index_of, number_pair}
-pub use Rattle.hlr_core.specs.Inside.Asked.{IsAsked, IsRowAction, IsRowStep, IsRowStepWhileOut, action_asked}
+pub use Rattle.hlr_core.specs.Edits.{IsAsked, IsRowAction, action_asked}
+pub use Rattle.hlr_core.specs.Inside.Asked.{IsRowStep, IsRowStepWhileOut}
 pub use Rattle.hlr_core.specs.Inside.Noted.{AreNoted, HasTwin, IsIndexed, bears}
 pub use Rattle.hlr_core.specs.Inside.Routed.{AsksFor, IsOn}
 pub use Rattle.hlr_core.specs.Kept.{IsSameAtHome, is_kept, is_lasting, is_on_rows, kept_answers, kept_orders}
 pub use Rattle.hlr_core.specs.Later.{AreLater, IsBackWith, IsLater, with_owners}
 pub use Rattle.hlr_core.specs.Numbers.{HasNoTwin, bearer_id, bearer_of}
-pub use Rattle.hlr_core.specs.Route.{IsRouted}
+pub use Rattle.hlr_core.specs.Route.{IsAskedJob, IsRouted, is_here}
 pub use Rattle.hlr_core.specs.Rows.{AreFound, access_reply, numbers_reply, subscriber_reply}
 pub use Rattle.hlr_core.specs.Run.{IsOrderStep, IsRun}
 pub use Rattle.hlr_core.specs.Session.{AreDone, IsActed, IsDoneAt, IsJobDone, IsJobOf, IsPosted, IsWithinJob, JobReply, JobsCommute, jobs_of, jobs_of_others}
@@ -115,7 +116,7 @@ pub use Rattle.hlr_core.specs.Tasks.{job_of}
 pub use Rattle.hlr_core.specs.Weights.{counted_weights, published_weights, weight}
 pub use Rattle.hlr_core.specs.WhileOut.{IsRecutWhileOut, IsStepWhileOut, register_with}
 pub use Rattle.hlr_core.specs.declared.event.Event.{Event}
-pub use Rattle.hlr_core.specs.declared.event.Event.TheVariants.{DeleteForwarding, Dissolve, Divide, Give, InsertForwarding, Post, Take, UpdateLocation}
+pub use Rattle.hlr_core.specs.declared.event.Event.TheVariants.{AccessData, AddAccess, AddFacility, AddSubscriber, DeleteForwarding, Dissolve, Divide, Give, InsertForwarding, NewDestination, Post, SetActive, SetNumber, SubscriberData, Take, UpdateLocation, UpdateSubscriber}
 pub use Rattle.hlr_core.specs.declared.event.Reply.{Reply}
 pub use Rattle.hlr_core.specs.declared.order.Answer.{Answer}
 pub use Rattle.hlr_core.specs.declared.order.Order.{Order}

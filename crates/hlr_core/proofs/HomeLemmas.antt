@@ -1,5 +1,5 @@
 -- Whoever an event needs is at home where all are, and where the one is whom its action needs.
-use Rattle.hlr_core.proofs.Common.{◌≡◌, ◌∙◌, arith, refl, sym, ap, ℕ, zero, suc, ◌+◌, ◌-◌, List, [], ◌∷◌, Bool, true, inl, inr, Option, Some, None, Ok, Err, ◌⊎◌, IfOk, IfSome, insert, option_map, remove, AllByRecursion, Refusal, s_id_of, Action, DeskState, outs_in, IsWithNew, IsWithout, AllHome, IsHomeFor, IsHomeFrom, OwnersState, book_in, homes_in, home_of_all, part_home_of_all, IsBearerHome, IsHomeTo, AreHomesAfter, IsLaterDesk, HaveSameHomes, IsAsked, action_asked, bearer_id, Event, UpdateLocation, InsertForwarding, DeleteForwarding, Post, Give, Take, Divide, Dissolve, Reply, Result}
+use Rattle.hlr_core.proofs.Common.{◌≡◌, ◌∙◌, arith, refl, sym, ap, ℕ, zero, suc, ◌+◌, ◌-◌, List, [], ◌∷◌, Bool, true, inl, inr, Option, Some, None, Ok, Err, ◌⊎◌, IfOk, IfSome, insert, option_map, remove, AllByRecursion, Refusal, s_id_of, Action, DeskState, outs_in, IsWithNew, IsWithout, AllHome, IsHomeFor, IsHomeFrom, OwnersState, book_in, homes_in, home_of_all, part_home_of_all, IsBearerHome, IsHomeTo, AreHomesAfter, IsLaterDesk, HaveSameHomes, AreHomesDissolved, AreHomesDivided, IsAsked, action_asked, divided_reply, dissolved_reply, bearer_id, Event, UpdateLocation, InsertForwarding, DeleteForwarding, Post, Give, Take, Divide, Dissolve, Reply, Result}
 use Rattle.hlr_core.proofs.PartsLemmas.{trues_each, trues_to}
 use Rattle.hlr_core.specs.declared.event.Reply.TheVariants as reply
 
@@ -57,6 +57,19 @@ homes_kept h = record { homes = refl; outs = refl; spare = refl }
 
 pub homes_edited : (before after : OwnersState) → homes_in after.owners ≡ homes_in before.owners → outs_in after.owners ≡ outs_in before.owners → after ≡ record before { owners = after.owners } → HaveSameHomes before after
 homes_edited before after homes outs same = record { homes = homes; outs = outs; spare = ap (λ (h : OwnersState). h.spare) same }
+
+-- what moves regions and owners alone, and nobody's being at home or out
+pub homes_moved : (before after : OwnersState) → homes_in after.owners ≡ homes_in before.owners → outs_in after.owners ≡ outs_in before.owners → after ≡ record before { regions = after.regions; owners = after.owners } → HaveSameHomes before after
+homes_moved before after homes outs same = record { homes = homes; outs = outs; spare = ap (λ (h : OwnersState). h.spare) same }
+
+-- who is at home after a divide and after a dissolve
+pub homes_divided : (part at : ℕ) (done : Result (ℕ × ℕ × ℕ) Refusal) (before after : OwnersState) → AreHomesDivided part done before after → AreHomesAfter (Divide part at) (divided_reply done) before after
+homes_divided part at (Ok new) before after homes = homes
+homes_divided part at (Err why) before after same = rw same (homes_kept before)
+
+pub homes_dissolved : (part : ℕ) (done : Result (ℕ × ℕ × ℕ) Refusal) (before after : OwnersState) → AreHomesDissolved part done before after → AreHomesAfter (Dissolve part) (dissolved_reply done) before after
+homes_dissolved part (Ok front) before after homes = homes
+homes_dissolved part (Err why) before after same = rw same (homes_kept before)
 
 -- all are at home where all were, if the same parts are at home
 pub still_home : (before after : OwnersState) → HaveSameHomes before after → AllHome before.owners → AllHome after.owners

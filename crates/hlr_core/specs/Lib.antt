@@ -1,4 +1,5 @@
 pub mod WhileOut
+pub mod Edits
 pub mod Gather
 pub mod Home
 pub mod Index

@@ -1,9 +1,10 @@
 -- Where an event goes: what is right of it holds whatever jobs the holdings have done since.
-use Rattle.std.specs.Prelude.{◌≡◌, ℕ, ◌<◌, Bool, true, false, List, length, Ok}
+use Rattle.std.specs.Prelude.{◌≡◌, ◌⊎◌, ℕ, ◌<◌, Bool, true, false, List, length, Ok}
 use Rattle.holding.specs.declared.job.Job.{Job}
 use Rattle.holding.specs.declared.job.Job.TheVariants as job
 use Rattle.hlr_owners.specs.Owners.{OwnersState, book_in, homes_in, store_in}
 use Rattle.hlr_owners.specs.declared.part_owner.RegionOwner.{RegionOwner}
+use Rattle.hlr_core.specs.Home.{IsHomeTo}
 use Rattle.hlr_core.specs.Later.{AreLater, with_owners}
 use Rattle.hlr_core.specs.Session.{IsDoneAt, IsJobOf}
 use Rattle.hlr_core.specs.Step.{IsStep, action_for}
@@ -40,8 +41,13 @@ is_here (Divide part at) = true
 is_here (Dissolve part) = true
 is_here _ = false
 
--- a right route: the reply, a job of a part that is there, which the event asks for, or the register itself
+-- the event asks for a job of a part, or for what the register itself does
+abbrev pub AsksWork : Event → OwnersState → Type 0
+AsksWork event h = (is_here event ≡ true) ⊎ ((part : ℕ) × (job : Job) × IsAskedJob event h part job)
+
+-- a right route: the reply, where the event asks for nothing, or no part is out on which it works; a job of a part that
+-- is there, which the event asks for; or the register itself
 abbrev pub IsRouted : Event → OwnersState → Route → Type 0
-IsRouted event h (Now answer) = IsRightNow event h answer
+IsRouted event h (Now answer) = IsRightNow event h answer × (AsksWork event h → IsHomeTo event h)
 IsRouted event h (To p job) = (p < length (homes_in h.owners)) × IsJobOf h.regions p job × IsAskedJob event h p job × IsRightSent event h p job
 IsRouted event h Here = is_here event ≡ true

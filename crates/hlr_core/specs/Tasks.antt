@@ -15,13 +15,13 @@ abbrev pub job_of : Task → Job
 job_of (SubscriberData s_id) = job.Act (action.SubscriberData s_id)
 job_of (NewDestination s_id sf_type start_time end_time) = job.Act (action.NewDestination s_id sf_type start_time end_time)
 job_of (AccessData s_id ai_type) = job.Act (action.AccessData s_id ai_type)
-job_of (UpdateSubscriber s_id sf_type bit_1 data_a) = job.Act (action.UpdateSubscriber s_id sf_type bit_1 data_a)
-job_of (UpdateLocation s_id vlr_location) = job.Act (action.UpdateLocation s_id vlr_location.value)
-job_of (InsertForwarding row) = job.Act (action.InsertForwarding row)
-job_of (DeleteForwarding s_id sf_type start_time) = job.Act (action.DeleteForwarding s_id sf_type start_time)
-job_of (AddAccess row) = job.Act (action.AddAccess row)
-job_of (AddFacility row) = job.Act (action.AddFacility row)
-job_of (SetActive s_id sf_type is_active) = job.Act (action.SetActive s_id sf_type is_active)
+job_of (UpdateSubscriber edit) = job.Act (action.UpdateSubscriber edit.s_id edit.sf_type edit.bit_1 edit.data_a)
+job_of (UpdateLocation edit) = job.Act (action.UpdateLocation edit.s_id edit.vlr_location.value)
+job_of (InsertForwarding edit) = job.Act (action.InsertForwarding edit.row)
+job_of (DeleteForwarding edit) = job.Act (action.DeleteForwarding edit.s_id edit.sf_type edit.start_time)
+job_of (AddAccess edit) = job.Act (action.AddAccess edit.row)
+job_of (AddFacility edit) = job.Act (action.AddFacility edit.row)
+job_of (SetActive edit) = job.Act (action.SetActive edit.s_id edit.sf_type edit.is_active)
 job_of (Post limit) = job.Post limit
 
 -- the route that a route by a task is

@@ -5,6 +5,7 @@ use Rattle.holding.specs.Held.{HoldingState}
 use Rattle.hlr_owners.specs.Out.{with_outs}
 use Rattle.hlr_owners.specs.Recut.{IsRecut}
 use Rattle.hlr_owners.specs.Owners.{OwnersState, store_in}
+use Rattle.hlr_core.specs.Home.{AreHomesAfter, HaveSameHomes}
 use Rattle.hlr_core.specs.Later.{AreLater, with_owners}
 use Rattle.hlr_core.specs.Step.{IsStep}
 use Rattle.hlr_core.specs.declared.event.Event.{Event}
@@ -25,3 +26,16 @@ abbrev pub IsRecutWhileOut : List ℕ → OwnersState → Result ℕ Refusal →
 IsRecutWhileOut bounds before answer after =
     (holdings : List HoldingState) → AreLater before.owners (with_outs before.owners holdings)
     → IsRecut bounds (store_in (register_with before holdings)) answer (store_in (register_with after holdings))
+
+-- a right step of a register: of the store that it is seen as, and whatever jobs have done to the parts that are out,
+-- which stay out
+pub record IsRegisterStep (event : Event) (before : OwnersState) (answer : Reply) (after : OwnersState) : Type 0 where
+  pub step : IsStep event (store_in before) answer (store_in after)
+  pub homes : AreHomesAfter event answer before after
+  pub while_out : IsStepWhileOut event before answer after
+
+-- a right re-cut of a register, in the same way
+pub record IsRegisterRecut (bounds : List ℕ) (before : OwnersState) (answer : Result ℕ Refusal) (after : OwnersState) : Type 0 where
+  pub recut : IsRecut bounds (store_in before) answer (store_in after)
+  pub homes : HaveSameHomes before after
+  pub while_out : IsRecutWhileOut bounds before answer after

@@ -5,7 +5,7 @@ ghost use Rattle.tatp_rows.specs.declared.ranges.TheConstants.{LAST_SUBSCRIBER};
 ghost use Rattle.tatp_actions.specs.Action.{is_in_range};
 ghost use Rattle.tatp_actions.specs.Book.{IsWithin};
 ghost use Rattle.tatp_actions.specs.declared.action.Action.TheVariants as action;
-ghost use Rattle.hlr_core.specs.Inside.Asked.{IsAsked, IsAskedAlone, IsRowAction, action_asked};
+ghost use Rattle.hlr_core.specs.Edits.{IsAsked, IsAskedAlone, IsRowAction, action_asked};
 ghost use Rattle.hlr_core.specs.Step.{has_forwarding_key};
 
 use std::num::NonZeroU32;
@@ -26,8 +26,8 @@ pub fn byte(value: u64) -> Result<u8, Refusal>
     u8::try_from(value).map_err(|_| Refusal::Field)
 }
 
-/// A location. 0, and what is above 4,294,967,295, is out of its range.
-fn location(value: u64) -> Result<NonZeroU32, Refusal>
+/// Makes a location: `Field` where the value is 0 or above 4,294,967,295.
+pub fn location(value: u64) -> Result<NonZeroU32, Refusal>
     ensures ok { IfOk result (λ location. (location.value ≡ value) × (is_between 1 4294967295 value ≡ true)) }
     ensures err { OnErr result ((is_between 1 4294967295 value ≡ false) × (result ≡ Err Refusal.Field)) }
 {
@@ -57,7 +57,7 @@ pub(crate) fn new_destination(
 
 /// Makes the edit of UPDATE_SUBSCRIBER_DATA: `Field` where s_id isn't in 1..=16,777,216, or sf_type, bit_1 or data_a is
 /// above 255. The edit itself looks at narrower ranges.
-pub(crate) fn update_subscriber(
+pub fn update_subscriber(
     s_id: u64,
     sf_type: u64,
     bit_1: u64,
@@ -76,7 +76,7 @@ pub(crate) fn update_subscriber(
 
 /// Makes the edit that switches a facility on or off: `Field` where s_id isn't in 1..=16,777,216, or sf_type or
 /// is_active is above 255. The edit itself looks at narrower ranges.
-pub(crate) fn set_active(s_id: u64, sf_type: u64, is_active: u64) -> Result<SetActive, Refusal>
+pub fn set_active(s_id: u64, sf_type: u64, is_active: u64) -> Result<SetActive, Refusal>
     ensures action { IfOk result (λ edit. IsRowAction (⟦<SetActive as Edit>⟧.action edit)) }
     ensures asked { IsAskedAlone (action.SetActive s_id sf_type is_active) (action_asked ⟦<SetActive as Edit>⟧.action result) }
 {

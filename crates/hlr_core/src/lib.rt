@@ -4,7 +4,7 @@
 //! Memory or Moving says that nothing was done, so who drops it loses the event.
 #![tactic(auto)]
 
-mod checked;
+pub mod checked;
 mod event;
 mod lent;
 mod level;

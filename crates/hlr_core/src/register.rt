@@ -4,7 +4,7 @@ ghost use Rattle.view_board.specs.Desks.{with_view};
 ghost use Rattle.view_board.specs.Views.{looked};
 ghost use Rattle.tatp_actions.specs.Cell.{cell};
 ghost use Rattle.hlr_core.specs.Inside.Asked.{ChangesRows};
-ghost use Rattle.hlr_core.specs.WhileOut.{IsRecutWhileOut, IsStepWhileOut};
+ghost use Rattle.hlr_core.specs.WhileOut.{IsRegisterRecut, IsRegisterStep};
 ghost use Rattle.hlr_core.specs.Index.{index_of};
 ghost use Rattle.hlr_core.specs.Kept.{IsSameAtHome};
 ghost use Rattle.hlr_owners.specs.Apart.{loose_pieces};
@@ -209,9 +209,7 @@ impl Register {
     /// is right whatever jobs have done to the holdings that are out.
     pub fn apply(&mut self, event: Event) -> Reply
         requires { IsHomeTo event self.old }
-        ensures step { IsStep event (store_in self.old) result (store_in self.new) }
-        ensures homes { AreHomesAfter event result self.old self.new }
-        ensures while_out { IsStepWhileOut event self.old result self.new }
+        ensures { IsRegisterStep event self.old result self.new }
     {
         match event {
             Event::SubscriberData { s_id } => row_reply(self.lend_subscriber(s_id)),
@@ -243,9 +241,7 @@ impl Register {
     fn change(&mut self, event: Event) -> Result<(), Refusal>
         requires rows { ChangesRows event }
         requires home { IsHomeTo event self.old }
-        ensures step { IsStep event (store_in self.old) (edited_reply result) (store_in self.new) }
-        ensures homes { HaveSameHomes self.old self.new }
-        ensures while_out { IsStepWhileOut event self.old (edited_reply result) self.new }
+        ensures { IsRegisterStep event self.old (edited_reply result) self.new }
     {
         match event {
             Event::UpdateSubscriber {
@@ -404,9 +400,7 @@ impl Register {
     /// to the holdings that are out.
     pub fn recut_to(&mut self, bounds: &[u64]) -> Result<u8, Refusal>
         requires { IsHomeToCut bounds.now self.old }
-        ensures recut { IsRecut bounds.now (store_in self.old) result (store_in self.new) }
-        ensures homes { HaveSameHomes self.old self.new }
-        ensures while_out { IsRecutWhileOut bounds.now self.old result self.new }
+        ensures { IsRegisterRecut bounds.now self.old result self.new }
     {
         self.owners.recut_to(bounds)
     }
@@ -422,9 +416,7 @@ impl Register {
     /// the cells before stay posted.
     pub fn post(&mut self, part: u64, limit: u64) -> Reply
         requires { IsPartHome part self.old }
-        ensures step { IsStep (Event.Post part limit) (store_in self.old) result (store_in self.new) }
-        ensures homes { HaveSameHomes self.old self.new }
-        ensures while_out { IsStepWhileOut (Event.Post part limit) self.old result self.new }
+        ensures { IsRegisterStep (Event.Post part limit) self.old result self.new }
     {
         Reply::of_posting(self.owners.post(part, limit))
     }
@@ -432,9 +424,7 @@ impl Register {
     #[inline(never)]
     fn give(&mut self, part: u64, side: Side, at: u64) -> Reply
         requires { IsPartHome part self.old }
-        ensures step { IsStep (Event.Give part side at) (store_in self.old) result (store_in self.new) }
-        ensures homes { HaveSameHomes self.old self.new }
-        ensures while_out { IsStepWhileOut (Event.Give part side at) self.old result self.new }
+        ensures { IsRegisterStep (Event.Give part side at) self.old result self.new }
     {
         match self.owners.give(part, side, at) {
             Ok((piece, lo, hi)) => Reply::Given { piece, lo, hi },
@@ -445,9 +435,7 @@ impl Register {
     #[inline(never)]
     fn take(&mut self, piece: u64, part: u64) -> Reply
         requires { IsPartHome part self.old }
-        ensures step { IsStep (Event.Take piece part) (store_in self.old) result (store_in self.new) }
-        ensures homes { HaveSameHomes self.old self.new }
-        ensures while_out { IsStepWhileOut (Event.Take piece part) self.old result self.new }
+        ensures { IsRegisterStep (Event.Take piece part) self.old result self.new }
     {
         self.owners.rules();
         match self.owners.take(piece, part) {
@@ -462,9 +450,7 @@ impl Register {
     #[inline(never)]
     fn divide(&mut self, part: u64, at: u64) -> Reply
         requires { IsHomeFrom part self.old }
-        ensures step { IsStep (Event.Divide part at) (store_in self.old) result (store_in self.new) }
-        ensures homes { AreHomesAfter (Event.Divide part at) result self.old self.new }
-        ensures while_out { IsStepWhileOut (Event.Divide part at) self.old result self.new }
+        ensures { IsRegisterStep (Event.Divide part at) self.old result self.new }
     {
         match self.owners.divide(part, at) {
             Ok((part, lo, hi)) => Reply::Divided { part, lo, hi },
@@ -475,9 +461,7 @@ impl Register {
     #[inline(never)]
     fn dissolve(&mut self, part: u64) -> Reply
         requires { IsHomeFrom (part - 1) self.old }
-        ensures step { IsStep (Event.Dissolve part) (store_in self.old) result (store_in self.new) }
-        ensures homes { AreHomesAfter (Event.Dissolve part) result self.old self.new }
-        ensures while_out { IsStepWhileOut (Event.Dissolve part) self.old result self.new }
+        ensures { IsRegisterStep (Event.Dissolve part) self.old result self.new }
     {
         match self.owners.dissolve(part) {
             Ok((part, lo, hi)) => Reply::Dissolved { part, lo, hi },

@@ -4,7 +4,7 @@ ghost use Rattle.std.specs.Prelude.{◌≡◌, ◌↔◌, ◌≤◌, Result, tru
 ghost use Rattle.hlr_core.specs.Home.{AreHome, IsBearerHome, WorksOn, is_by_number};
 ghost use Rattle.hlr_core.specs.Inside.Routed.{IsTaskFor, makes_change};
 ghost use Rattle.hlr_core.specs.Kept.{is_on_rows};
-ghost use Rattle.hlr_core.specs.Route.{IsRouted};
+ghost use Rattle.hlr_core.specs.Route.{IsRouted, is_here};
 ghost use Rattle.hlr_core.specs.Step.{action_for};
 ghost use Rattle.hlr_core.specs.Tasks.{route_of};
 ghost use Rattle.hlr_core.specs.declared.event.Event.{Event as Events};
@@ -267,7 +267,7 @@ impl Register {
     /// What an event asks for goes to the part that has its subscriber, and is refused where a loose piece has them.
     fn route_asked(&self, asked: Result<Task, Refusal>) -> TaskRoute
         requires { (wanted : Result Actions Refusals) × IsTaskFor wanted asked }
-        ensures { (event : Events) → is_on_rows event ≡ true → IsTaskFor (action_for event (book_in self.now.owners)) asked → IsRouted event self.now (route_of result) }
+        ensures { (event : Events) → is_on_rows event ≡ true → is_here event ≡ false → IsTaskFor (action_for event (book_in self.now.owners)) asked → IsRouted event self.now (route_of result) }
     {
         self.owners.rules();
         match asked {

@@ -14,13 +14,12 @@ use crate::event::Reply;
 use crate::register::{access_reply, edited_reply, row_reply};
 use holding::{Holding, Job};
 use std::mem::size_of;
-use std::num::NonZeroU32;
 use tatp_actions::edit::{
     AddAccess, AddFacility, DeleteForwarding, InsertForwarding, SetActive, UpdateLocation,
     UpdateSubscriber,
 };
 use tatp_actions::{Action, Edit, RowReply};
-use tatp_rows::{Access, Facility, Forwarding, Refusal, is_between, is_start_time};
+use tatp_rows::{Refusal, is_between, is_start_time};
 use view_board::Board;
 
 /// What the holding of a part is asked to do: an action that gives no number, or a posting. It takes 24 bytes, and a
@@ -52,47 +51,19 @@ pub enum Task {
         ai_type: u8,
     },
     /// UPDATE_SUBSCRIBER_DATA (TATP, section 3.4): sets bit_1 of the subscriber and data_a of the facility, or neither.
-    UpdateSubscriber {
-        /// The subscriber.
-        s_id: u32,
-        /// The type of the facility, 1..=4.
-        sf_type: u8,
-        /// The new bit_1, 0 or 1.
-        bit_1: u8,
-        /// The new data_a.
-        data_a: u8,
-    },
+    UpdateSubscriber(UpdateSubscriber),
     /// The body of UPDATE_LOCATION (TATP, section 3.5): sets vlr_location.
-    UpdateLocation {
-        /// The subscriber.
-        s_id: u32,
-        /// The new location.
-        vlr_location: NonZeroU32,
-    },
+    UpdateLocation(UpdateLocation),
     /// The body of INSERT_CALL_FORWARDING (TATP, section 3.6): adds a Call_Forwarding row.
-    InsertForwarding(Forwarding),
+    InsertForwarding(InsertForwarding),
     /// The body of DELETE_CALL_FORWARDING (TATP, section 3.7): takes a Call_Forwarding row away.
-    DeleteForwarding {
-        /// The subscriber.
-        s_id: u32,
-        /// The type of the facility, 1..=4.
-        sf_type: u8,
-        /// The hour at which the forwarding starts: 0, 8 or 16.
-        start_time: u8,
-    },
+    DeleteForwarding(DeleteForwarding),
     /// Adds an Access_Info row.
-    AddAccess(Access),
+    AddAccess(AddAccess),
     /// Adds a Special_Facility row.
-    AddFacility(Facility),
+    AddFacility(AddFacility),
     /// Switches a facility on or off.
-    SetActive {
-        /// The subscriber.
-        s_id: u32,
-        /// The type of the facility, 1..=4.
-        sf_type: u8,
-        /// The new is_active, 0 or 1.
-        is_active: u8,
-    },
+    SetActive(SetActive),
     /// Posts at most so many cells.
     Post(u64),
 }
@@ -184,30 +155,21 @@ impl Task {
         ensures { job.Act result ≡ job_of self.now }
     {
         match *self {
-            Task::UpdateSubscriber {
-                s_id,
-                sf_type,
-                bit_1,
-                data_a,
-            } => Action::UpdateSubscriber {
-                s_id,
-                sf_type,
-                bit_1,
-                data_a,
+            Task::UpdateSubscriber(edit) => Action::UpdateSubscriber {
+                s_id: edit.s_id,
+                sf_type: edit.sf_type,
+                bit_1: edit.bit_1,
+                data_a: edit.data_a,
             },
-            Task::UpdateLocation { s_id, vlr_location } => Action::UpdateLocation {
-                s_id,
-                vlr_location: vlr_location.get(),
+            Task::UpdateLocation(edit) => Action::UpdateLocation {
+                s_id: edit.s_id,
+                vlr_location: edit.vlr_location.get(),
             },
-            Task::InsertForwarding(row) => Action::InsertForwarding(row),
-            Task::DeleteForwarding {
-                s_id,
-                sf_type,
-                start_time,
-            } => Action::DeleteForwarding {
-                s_id,
-                sf_type,
-                start_time,
+            Task::InsertForwarding(edit) => Action::InsertForwarding(edit.row),
+            Task::DeleteForwarding(edit) => Action::DeleteForwarding {
+                s_id: edit.s_id,
+                sf_type: edit.sf_type,
+                start_time: edit.start_time,
             },
             _ => self.to_administration(),
         }
@@ -219,16 +181,12 @@ impl Task {
         ensures { job.Act result ≡ job_of self.now }
     {
         match *self {
-            Task::AddAccess(row) => Action::AddAccess(row),
-            Task::AddFacility(row) => Action::AddFacility(row),
-            Task::SetActive {
-                s_id,
-                sf_type,
-                is_active,
-            } => Action::SetActive {
-                s_id,
-                sf_type,
-                is_active,
+            Task::AddAccess(edit) => Action::AddAccess(edit.row),
+            Task::AddFacility(edit) => Action::AddFacility(edit.row),
+            Task::SetActive(edit) => Action::SetActive {
+                s_id: edit.s_id,
+                sf_type: edit.sf_type,
+                is_active: edit.is_active,
             },
             // No other task is such a command.
             _ => unreachable!(),
@@ -243,14 +201,14 @@ impl Task {
         match *self {
             Task::SubscriberData { s_id }
             | Task::NewDestination { s_id, .. }
-            | Task::AccessData { s_id, .. }
-            | Task::UpdateSubscriber { s_id, .. }
-            | Task::UpdateLocation { s_id, .. }
-            | Task::DeleteForwarding { s_id, .. }
-            | Task::SetActive { s_id, .. } => s_id,
-            Task::InsertForwarding(row) => row.s_id(),
-            Task::AddAccess(row) => row.s_id(),
-            Task::AddFacility(row) => row.s_id(),
+            | Task::AccessData { s_id, .. } => s_id,
+            Task::UpdateSubscriber(edit) => edit.s_id,
+            Task::UpdateLocation(edit) => edit.s_id,
+            Task::InsertForwarding(edit) => edit.row.s_id(),
+            Task::DeleteForwarding(edit) => edit.s_id,
+            Task::AddAccess(edit) => edit.row.s_id(),
+            Task::AddFacility(edit) => edit.row.s_id(),
+            Task::SetActive(edit) => edit.s_id,
             Task::Post(_) => unreachable!(),
         }
     }
@@ -284,36 +242,10 @@ impl Task {
         ensures { IsJobDone (job_of self) holding.old result holding.new }
     {
         match self {
-            Task::UpdateSubscriber {
-                s_id,
-                sf_type,
-                bit_1,
-                data_a,
-            } => {
-                let edit = UpdateSubscriber {
-                    s_id,
-                    sf_type,
-                    bit_1,
-                    data_a,
-                };
-                edited(holding, edit)
-            }
-            Task::UpdateLocation { s_id, vlr_location } => {
-                edited(holding, UpdateLocation { s_id, vlr_location })
-            }
-            Task::InsertForwarding(row) => edited(holding, InsertForwarding { row }),
-            Task::DeleteForwarding {
-                s_id,
-                sf_type,
-                start_time,
-            } => {
-                let edit = DeleteForwarding {
-                    s_id,
-                    sf_type,
-                    start_time,
-                };
-                edited(holding, edit)
-            }
+            Task::UpdateSubscriber(edit) => edited(holding, edit),
+            Task::UpdateLocation(edit) => edited(holding, edit),
+            Task::InsertForwarding(edit) => edited(holding, edit),
+            Task::DeleteForwarding(edit) => edited(holding, edit),
             _ => self.administer(holding),
         }
     }
@@ -325,20 +257,9 @@ impl Task {
         ensures { IsJobDone (job_of self) holding.old result holding.new }
     {
         match self {
-            Task::AddAccess(row) => edited(holding, AddAccess { row }),
-            Task::AddFacility(row) => edited(holding, AddFacility { row }),
-            Task::SetActive {
-                s_id,
-                sf_type,
-                is_active,
-            } => {
-                let edit = SetActive {
-                    s_id,
-                    sf_type,
-                    is_active,
-                };
-                edited(holding, edit)
-            }
+            Task::AddAccess(edit) => edited(holding, edit),
+            Task::AddFacility(edit) => edited(holding, edit),
+            Task::SetActive(edit) => edited(holding, edit),
             // No other task is such a command.
             _ => unreachable!(),
         }

@@ -9,6 +9,7 @@ ghost use Rattle.hlr_core.specs.Step.{checked, has_forwarding_key, if_in_range};
 
 use crate::checked;
 use crate::task::Task;
+use tatp_actions::edit::{AddAccess, AddFacility};
 use tatp_rows::{
     Access, Facility, LAST_SUBSCRIBER, Number, Refusal, byte_in_range, in_range, is_between,
 };
@@ -65,12 +66,7 @@ pub(crate) fn update_subscriber(
     if !is_between(edit.sf_type, 1, 4) || edit.bit_1 > 1 {
         return Err(Refusal::Field);
     }
-    Ok(Task::UpdateSubscriber {
-        s_id: edit.s_id,
-        sf_type: edit.sf_type,
-        bit_1: edit.bit_1,
-        data_a: edit.data_a,
-    })
+    Ok(Task::UpdateSubscriber(edit))
 }
 
 /// Makes the task that switches a facility on or off: `Field` where s_id isn't in 1..=16,777,216, sf_type isn't in
@@ -82,11 +78,7 @@ pub(crate) fn set_active(s_id: u64, sf_type: u64, is_active: u64) -> Result<Task
     if !is_between(edit.sf_type, 1, 4) || edit.is_active > 1 {
         return Err(Refusal::Field);
     }
-    Ok(Task::SetActive {
-        s_id: edit.s_id,
-        sf_type: edit.sf_type,
-        is_active: edit.is_active,
-    })
+    Ok(Task::SetActive(edit))
 }
 
 /// Makes the task of UPDATE_LOCATION for who has the number: `Field` where vlr_location isn't in 1..=4,294,967,295,
@@ -96,10 +88,7 @@ pub(crate) fn update_location(bearer_id: Option<u32>, vlr_location: u64) -> Resu
     ensures { IsTaskFor (checked (is_between 1 4294967295 vlr_location) (option_map (λ s_id. action.UpdateLocation s_id vlr_location) bearer_id)) result }
 {
     let edit = checked::update_location(bearer_id, vlr_location)?;
-    Ok(Task::UpdateLocation {
-        s_id: edit.s_id,
-        vlr_location: edit.vlr_location,
-    })
+    Ok(Task::UpdateLocation(edit))
 }
 
 /// Makes the task of INSERT_CALL_FORWARDING for who has the number: `Field` where sf_type isn't in 1..=4, start_time
@@ -116,7 +105,7 @@ pub(crate) fn insert_forwarding(
         (option_map (λ s_id. action.InsertForwarding (record { s_id = s_id; sf_type = sf_type; start_time = start_time; end_time = end_time; numberx = numberx })) bearer_id)) result }
 {
     let edit = checked::insert_forwarding(bearer_id, sf_type, start_time, end_time, numberx)?;
-    Ok(Task::InsertForwarding(edit.row))
+    Ok(Task::InsertForwarding(edit))
 }
 
 /// Makes the task of DELETE_CALL_FORWARDING for who has the number: `Field` where sf_type isn't in 1..=4 or start_time
@@ -130,11 +119,7 @@ pub(crate) fn delete_forwarding(
     ensures { IsTaskFor (checked (has_forwarding_key sf_type start_time) (option_map (λ s_id. action.DeleteForwarding s_id sf_type start_time) bearer_id)) result }
 {
     let edit = checked::delete_forwarding(bearer_id, sf_type, start_time)?;
-    Ok(Task::DeleteForwarding {
-        s_id: edit.s_id,
-        sf_type: edit.sf_type,
-        start_time: edit.start_time,
-    })
+    Ok(Task::DeleteForwarding(edit))
 }
 
 /// Makes the task that adds an Access_Info row. It refuses none.
@@ -143,7 +128,7 @@ pub(crate) fn add_access(row: Access) -> Result<Task, Refusal>
 {
     // For the prover: the row is in range, as its reader says.
     let _s_id = row.s_id();
-    Ok(Task::AddAccess(row))
+    Ok(Task::AddAccess(AddAccess { row }))
 }
 
 /// Makes the task that adds a Special_Facility row. It refuses none.
@@ -152,5 +137,5 @@ pub(crate) fn add_facility(row: Facility) -> Result<Task, Refusal>
 {
     // For the prover: the row is in range, as its reader says.
     let _s_id = row.s_id();
-    Ok(Task::AddFacility(row))
+    Ok(Task::AddFacility(AddFacility { row }))
 }

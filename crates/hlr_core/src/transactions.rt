@@ -4,11 +4,12 @@
 //! that are out.
 ghost use Rattle.std.specs.Prelude.{◌≡◌, ◌+◌, ℕ, Some, IfOk, IfErr, MatchResult, Bool, Option};
 ghost use Rattle.tatp_rows.specs.declared.ranges.TheConstants.{LAST_SUBSCRIBER};
-ghost use Rattle.hlr_core.specs.Inside.Asked.{IsAsked, IsRowAction, IsRowStep, IsRowStepWhileOut, action_asked};
+ghost use Rattle.hlr_core.specs.Edits.{IsAsked, IsRowAction, action_asked};
+ghost use Rattle.hlr_core.specs.Inside.Asked.{IsRowStep, IsRowStepWhileOut};
 ghost use Rattle.hlr_core.specs.Step.{IsStep, edited_reply};
 ghost use Rattle.hlr_core.specs.declared.event.Event.TheVariants as event;
 ghost use Rattle.hlr_core.specs.declared.event.Reply.TheVariants as reply;
-ghost use Rattle.hlr_core.specs.WhileOut.{IsStepWhileOut};
+ghost use Rattle.hlr_core.specs.WhileOut.{IsRegisterStep, IsStepWhileOut};
 ghost use Rattle.hlr_core.specs.Home.{IsHomeTo, HaveSameHomes};
 ghost use Rattle.hlr_core.specs.Numbers.{bearer_id};
 ghost use Rattle.hlr_owners.specs.Owners.{IsHomeFor, book_in, store_in};
@@ -86,9 +87,7 @@ impl Register {
         data_a: u64,
     ) -> Result<(), Refusal>
         requires { IsHomeTo (event.UpdateSubscriber s_id sf_type bit_1 data_a) self.old }
-        ensures step { IsStep (event.UpdateSubscriber s_id sf_type bit_1 data_a) (store_in self.old) (edited_reply result) (store_in self.new) }
-        ensures homes { HaveSameHomes self.old self.new }
-        ensures while_out { IsStepWhileOut (event.UpdateSubscriber s_id sf_type bit_1 data_a) self.old (edited_reply result) self.new }
+        ensures { IsRegisterStep (event.UpdateSubscriber s_id sf_type bit_1 data_a) self.old (edited_reply result) self.new }
     {
         self.edit(checked::update_subscriber(s_id, sf_type, bit_1, data_a))
     }
@@ -97,9 +96,7 @@ impl Register {
     /// 1..=4,294,967,295, `NoNumber`, `Moving`.
     pub fn update_location(&mut self, sub_nbr: Number, vlr_location: u64) -> Result<(), Refusal>
         requires { IsHomeTo (event.UpdateLocation sub_nbr vlr_location) self.old }
-        ensures step { IsStep (event.UpdateLocation sub_nbr vlr_location) (store_in self.old) (edited_reply result) (store_in self.new) }
-        ensures homes { HaveSameHomes self.old self.new }
-        ensures while_out { IsStepWhileOut (event.UpdateLocation sub_nbr vlr_location) self.old (edited_reply result) self.new }
+        ensures { IsRegisterStep (event.UpdateLocation sub_nbr vlr_location) self.old (edited_reply result) self.new }
     {
         let bearer_id = self.bearer(sub_nbr);
         self.edit(checked::update_location(bearer_id, vlr_location))
@@ -117,9 +114,7 @@ impl Register {
         numberx: Number,
     ) -> Result<(), Refusal>
         requires { IsHomeTo (event.InsertForwarding sub_nbr sf_type start_time end_time numberx) self.old }
-        ensures step { IsStep (event.InsertForwarding sub_nbr sf_type start_time end_time numberx) (store_in self.old) (edited_reply result) (store_in self.new) }
-        ensures homes { HaveSameHomes self.old self.new }
-        ensures while_out { IsStepWhileOut (event.InsertForwarding sub_nbr sf_type start_time end_time numberx) self.old (edited_reply result) self.new }
+        ensures { IsRegisterStep (event.InsertForwarding sub_nbr sf_type start_time end_time numberx) self.old (edited_reply result) self.new }
     {
         let bearer_id = self.bearer(sub_nbr);
         self.edit(checked::insert_forwarding(bearer_id, sf_type, start_time, end_time, numberx))
@@ -134,9 +129,7 @@ impl Register {
         start_time: u64,
     ) -> Result<(), Refusal>
         requires { IsHomeTo (event.DeleteForwarding sub_nbr sf_type start_time) self.old }
-        ensures step { IsStep (event.DeleteForwarding sub_nbr sf_type start_time) (store_in self.old) (edited_reply result) (store_in self.new) }
-        ensures homes { HaveSameHomes self.old self.new }
-        ensures while_out { IsStepWhileOut (event.DeleteForwarding sub_nbr sf_type start_time) self.old (edited_reply result) self.new }
+        ensures { IsRegisterStep (event.DeleteForwarding sub_nbr sf_type start_time) self.old (edited_reply result) self.new }
     {
         let bearer_id = self.bearer(sub_nbr);
         self.edit(checked::delete_forwarding(bearer_id, sf_type, start_time))
@@ -145,9 +138,7 @@ impl Register {
     /// Adds an Access_Info row, as `Event::AddAccess`: `Moving`, `NoSubscriber`, `Exists`, `Memory`.
     pub fn add_access(&mut self, row: Access) -> Result<(), Refusal>
         requires { IsHomeTo (event.AddAccess row) self.old }
-        ensures step { IsStep (event.AddAccess row) (store_in self.old) (edited_reply result) (store_in self.new) }
-        ensures homes { HaveSameHomes self.old self.new }
-        ensures while_out { IsStepWhileOut (event.AddAccess row) self.old (edited_reply result) self.new }
+        ensures { IsRegisterStep (event.AddAccess row) self.old (edited_reply result) self.new }
     {
         self.edit(checked::add_access(row))
     }
@@ -155,9 +146,7 @@ impl Register {
     /// Adds a Special_Facility row, as `Event::AddFacility`: `Moving`, `NoSubscriber`, `Exists`, `Memory`.
     pub fn add_facility(&mut self, row: Facility) -> Result<(), Refusal>
         requires { IsHomeTo (event.AddFacility row) self.old }
-        ensures step { IsStep (event.AddFacility row) (store_in self.old) (edited_reply result) (store_in self.new) }
-        ensures homes { HaveSameHomes self.old self.new }
-        ensures while_out { IsStepWhileOut (event.AddFacility row) self.old (edited_reply result) self.new }
+        ensures { IsRegisterStep (event.AddFacility row) self.old (edited_reply result) self.new }
     {
         self.edit(checked::add_facility(row))
     }
@@ -166,9 +155,7 @@ impl Register {
     /// in 1..=4 or is_active isn't in 0..=1, `Moving`, `NoFacility`.
     pub fn set_active(&mut self, s_id: u64, sf_type: u64, is_active: u64) -> Result<(), Refusal>
         requires { IsHomeTo (event.SetActive s_id sf_type is_active) self.old }
-        ensures step { IsStep (event.SetActive s_id sf_type is_active) (store_in self.old) (edited_reply result) (store_in self.new) }
-        ensures homes { HaveSameHomes self.old self.new }
-        ensures while_out { IsStepWhileOut (event.SetActive s_id sf_type is_active) self.old (edited_reply result) self.new }
+        ensures { IsRegisterStep (event.SetActive s_id sf_type is_active) self.old (edited_reply result) self.new }
     {
         self.edit(checked::set_active(s_id, sf_type, is_active))
     }
@@ -176,9 +163,7 @@ impl Register {
     /// Adds a Subscriber row, as `Event::AddSubscriber`: `Moving`, `Exists`, `NumberTaken`, `Memory`.
     pub fn add_subscriber(&mut self, row: Subscriber) -> Result<(), Refusal>
         requires { IsHomeTo (event.AddSubscriber row) self.old }
-        ensures step { IsStep (event.AddSubscriber row) (store_in self.old) (edited_reply result) (store_in self.new) }
-        ensures homes { HaveSameHomes self.old self.new }
-        ensures while_out { IsStepWhileOut (event.AddSubscriber row) self.old (edited_reply result) self.new }
+        ensures { IsRegisterStep (event.AddSubscriber row) self.old (edited_reply result) self.new }
     {
         self.owners.rules();
         let s_id = row.s_id();
@@ -202,9 +187,7 @@ impl Register {
     /// `NumberTaken`, `Memory`.
     pub fn set_number(&mut self, s_id: u64, sub_nbr: Number) -> Result<(), Refusal>
         requires { IsHomeTo (event.SetNumber s_id sub_nbr) self.old }
-        ensures step { IsStep (event.SetNumber s_id sub_nbr) (store_in self.old) (edited_reply result) (store_in self.new) }
-        ensures homes { HaveSameHomes self.old self.new }
-        ensures while_out { IsStepWhileOut (event.SetNumber s_id sub_nbr) self.old (edited_reply result) self.new }
+        ensures { IsRegisterStep (event.SetNumber s_id sub_nbr) self.old (edited_reply result) self.new }
     {
         self.owners.rules();
         let s_id = in_range(s_id, LAST_SUBSCRIBER)?;

@@ -36,7 +36,7 @@ pub trait Edit: Copy {
 }
 
 /// UPDATE_SUBSCRIBER_DATA (TATP, section 3.4): sets bit_1 of the subscriber and data_a of the facility, or neither.
-#[derive(Clone, Copy, Debug)]
+#[derive(Clone, Copy, Debug, PartialEq, Eq)]
 pub struct UpdateSubscriber {
     /// The subscriber.
     pub s_id: u32,
@@ -73,7 +73,7 @@ impl Edit for UpdateSubscriber {
 }
 
 /// The body of UPDATE_LOCATION (TATP, section 3.5): sets vlr_location.
-#[derive(Clone, Copy, Debug)]
+#[derive(Clone, Copy, Debug, PartialEq, Eq)]
 pub struct UpdateLocation {
     /// The subscriber.
     pub s_id: u32,
@@ -104,7 +104,7 @@ impl Edit for UpdateLocation {
 }
 
 /// The body of INSERT_CALL_FORWARDING (TATP, section 3.6): adds a Call_Forwarding row.
-#[derive(Clone, Copy, Debug)]
+#[derive(Clone, Copy, Debug, PartialEq, Eq)]
 pub struct InsertForwarding {
     /// The new row.
     pub row: Forwarding,
@@ -130,7 +130,7 @@ impl Edit for InsertForwarding {
 }
 
 /// The body of DELETE_CALL_FORWARDING (TATP, section 3.7): takes a Call_Forwarding row away.
-#[derive(Clone, Copy, Debug)]
+#[derive(Clone, Copy, Debug, PartialEq, Eq)]
 pub struct DeleteForwarding {
     /// The subscriber.
     pub s_id: u32,
@@ -164,7 +164,7 @@ impl Edit for DeleteForwarding {
 }
 
 /// Adds a Subscriber row.
-#[derive(Clone, Copy, Debug)]
+#[derive(Clone, Copy, Debug, PartialEq, Eq)]
 pub struct AddSubscriber {
     /// The new row.
     pub row: Subscriber,
@@ -190,7 +190,7 @@ impl Edit for AddSubscriber {
 }
 
 /// Adds an Access_Info row.
-#[derive(Clone, Copy, Debug)]
+#[derive(Clone, Copy, Debug, PartialEq, Eq)]
 pub struct AddAccess {
     /// The new row.
     pub row: Access,
@@ -216,7 +216,7 @@ impl Edit for AddAccess {
 }
 
 /// Adds a Special_Facility row.
-#[derive(Clone, Copy, Debug)]
+#[derive(Clone, Copy, Debug, PartialEq, Eq)]
 pub struct AddFacility {
     /// The new row.
     pub row: Facility,
@@ -242,7 +242,7 @@ impl Edit for AddFacility {
 }
 
 /// Switches a facility on or off.
-#[derive(Clone, Copy, Debug)]
+#[derive(Clone, Copy, Debug, PartialEq, Eq)]
 pub struct SetActive {
     /// The subscriber.
     pub s_id: u32,
@@ -276,7 +276,7 @@ impl Edit for SetActive {
 }
 
 /// Gives a subscriber another number.
-#[derive(Clone, Copy, Debug)]
+#[derive(Clone, Copy, Debug, PartialEq, Eq)]
 pub struct SetNumber {
     /// The subscriber.
     pub s_id: u32,

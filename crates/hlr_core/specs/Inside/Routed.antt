@@ -5,7 +5,7 @@ use Rattle.holding.specs.declared.job.Job.TheVariants as job
 use Rattle.tatp_rows.specs.declared.refusal.Refusal.{Refusal}
 use Rattle.tatp_actions.specs.Action.{is_in_range, s_id_of}
 use Rattle.tatp_actions.specs.declared.action.Action.{Action}
-use Rattle.hlr_core.specs.Inside.Asked.{IsRowAction}
+use Rattle.hlr_core.specs.Edits.{IsRowAction}
 use Rattle.hlr_core.specs.Tasks.{job_of}
 use Rattle.hlr_core.specs.declared.event.Event.{Event}
 use Rattle.hlr_core.specs.declared.event.Event.TheVariants as event
@@ -37,9 +37,9 @@ changes_rows _ = true
 
 -- a task that is an administrative command
 abbrev pub administers : Task → Bool
-administers (task.AddAccess row) = true
-administers (task.AddFacility row) = true
-administers (task.SetActive s_id sf_type is_active) = true
+administers (task.AddAccess edit) = true
+administers (task.AddFacility edit) = true
+administers (task.SetActive edit) = true
 administers _ = false
 
 -- an event that changes rows, regions or parts

@@ -6,8 +6,9 @@ use Rattle.hlr_core.proofs.register.Register.add_access.Goals as goal
 pub edit-requires-clause-home : goal.edit-requires-clause-home
 edit-requires-clause-home c = home_of_asked _ true (action.AddAccess c.args.row) _ c.add_access.result c.requires c.add_access.ensures.asked
 
-pub returns-clause-step : goal.returns-clause-step
-returns-clause-step c = c.edit.ensures.step true (Some (action.AddAccess c.args.row)) c.add_access.ensures.asked
-
-pub returns-clause-while_out : goal.returns-clause-while_out
-returns-clause-while_out c = c.edit.ensures.while_out true (Some (action.AddAccess c.args.row)) c.add_access.ensures.asked
+pub returns : goal.returns
+returns c = record {
+  step = c.edit.ensures.step true (Some (action.AddAccess c.args.row)) c.add_access.ensures.asked;
+  homes = c.edit.ensures.homes;
+  while_out = c.edit.ensures.while_out true (Some (action.AddAccess c.args.row)) c.add_access.ensures.asked;
+}

@@ -10,9 +10,9 @@ edit-requires-clause-home c =
     home_of_bearer _ _ (λ s_id. action.DeleteForwarding s_id c.args.sf_type c.args.start_time) c.bearer-bearer_id.result _ c.delete_forwarding.result (λ s_id. refl)
     (rw (c.bearer-bearer_id.ensures.value) c.requires) c.delete_forwarding.ensures.asked
 
-pub returns-clause-step : goal.returns-clause-step
-returns-clause-step c = rw (← c.bearer-bearer_id.ensures.value) (c.edit.ensures.step _ _ c.delete_forwarding.ensures.asked)
-
-pub returns-clause-while_out : goal.returns-clause-while_out
-returns-clause-while_out c =
-    step_while_out (event.DeleteForwarding c.args.sub_nbr c.args.sf_type c.args.start_time) c.args.self.now c.edit.new.self (edited_reply c.edit.result) refl (rw (← c.bearer-bearer_id.ensures.value) (c.edit.ensures.while_out _ _ c.delete_forwarding.ensures.asked))
+pub returns : goal.returns
+returns c = record {
+  step = rw (← c.bearer-bearer_id.ensures.value) (c.edit.ensures.step _ _ c.delete_forwarding.ensures.asked);
+  homes = c.edit.ensures.homes;
+  while_out = step_while_out (event.DeleteForwarding c.args.sub_nbr c.args.sf_type c.args.start_time) c.args.self.now c.edit.new.self (edited_reply c.edit.result) refl (rw (← c.bearer-bearer_id.ensures.value) (c.edit.ensures.while_out _ _ c.delete_forwarding.ensures.asked));
+}

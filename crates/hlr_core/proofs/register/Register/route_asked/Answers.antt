@@ -10,13 +10,13 @@ pub returns-in-Part : goal.returns-in-Part
 returns-in-Part c =
     let placed : place_of c.s_id.result c.self.inside.owners.regions ≡ Some (place.Part c.in-Part.part) =
     rw (← c.regions.ensures.value) (sym c.in-Part.ensures.value) in
-    rw (← c.self.view_is) (λ event rows asks. job_to event c.self.inside.owners rows c.s_id.result (job_of c.in-Ok.task) (rw c.in-Ok.is at asks) c.s_id.ensures c.in-Part.part c.rules.ensures.ruled placed)
+    rw (← c.self.view_is) (λ event rows elsewhere asks. job_to event c.self.inside.owners rows elsewhere c.s_id.result (job_of c.in-Ok.task) (rw c.in-Ok.is at asks) c.s_id.ensures c.in-Part.part c.rules.ensures.ruled placed)
 
 pub returns-in-Piece : goal.returns-in-Piece
 returns-in-Piece c =
     let placed : place_of c.s_id.result c.self.inside.owners.regions ≡ Some (place.Piece c.in-Piece.field-0) =
     rw (← c.regions.ensures.value) (sym c.in-Piece.ensures.value) in
-    rw (← c.self.view_is) (λ event rows asks. job_moving event c.self.inside.owners rows c.s_id.result (job_of c.in-Ok.task) (rw c.in-Ok.is at asks) c.s_id.ensures c.in-Piece.field-0 placed)
+    rw (← c.self.view_is) (λ event rows elsewhere asks. job_moving event c.self.inside.owners rows elsewhere c.s_id.result (job_of c.in-Ok.task) (rw c.in-Ok.is at asks) c.s_id.ensures c.in-Piece.field-0 placed)
 
 pub returns-in-Err : goal.returns-in-Err
-returns-in-Err c = λ event rows asks. now_refused event c.args.self.now rows c.in-Err.why (rw c.in-Err.is at asks)
+returns-in-Err c = λ event rows elsewhere asks. now_refused event c.args.self.now rows elsewhere c.in-Err.why (rw c.in-Err.is at asks)
