@@ -14,7 +14,10 @@ pub use Rattle.hlr_core.proofs.LaterLemmas.{all_later_self, later_after, outcome
 pub use Rattle.hlr_core.specs.Home.{AreHomesAfter, HaveSameHomes, IsHomeTo}
 pub use Rattle.hlr_core.specs.Index.{number_pair}
 pub use Rattle.hlr_core.specs.Later.{IsBackWith, IsLater}
-pub use Rattle.hlr_core.specs.Route.{IsRightNow, is_here}
+pub use Rattle.hlr_core.specs.Kept.{is_on_rows}
+pub use Rattle.hlr_core.specs.Route.{IsAskedJob, IsRouted, is_here}
+pub use Rattle.hlr_core.specs.WhileOut.{IsRegisterStep}
+pub use Rattle.hlr_core.specs.declared.route.Route.TheVariants.{Now}
 pub use Rattle.hlr_core.specs.Session.{IsActed, IsJobDone, IsNumberless, IsPosted}
 pub use Rattle.hlr_core.specs.Step.{IsAskedStep, IsStep, action_for, dissolved_reply, divided_reply, given_reply, posted_reply, reply_of, taken_reply}
 pub use Rattle.hlr_core.specs.declared.event.Event.{Event}
@@ -25,7 +28,7 @@ pub use Rattle.hlr_owners.proofs.HomeLemmas.{part_home_of_all}
 pub use Rattle.hlr_owners.proofs.PartLemmas.{at_number, count_parts, part_has_place, part_state_at, set_number}
 pub use Rattle.hlr_owners.proofs.StateLemmas.{lies_within}
 pub use Rattle.hlr_owners.specs.Answered.{MayAnswer}
-pub use Rattle.hlr_owners.specs.Out.{out_of, outs_in}
+pub use Rattle.hlr_owners.specs.Out.{out_of, outs_in, with_outs}
 pub use Rattle.hlr_owners.specs.Owners.{AreOwners, IsHomeFor, IsHomeFrom, IsLent, IsPartHome, OwnersState, book_in, homes_in, store_in}
 pub use Rattle.hlr_owners.specs.PartOwnerState.{PartOwnerState}
 pub use Rattle.hlr_owners.specs.Recut.{IsHomeToCut, IsHomeToMove}
@@ -54,7 +57,7 @@ pub use Rattle.tatp_rows.specs.Rows.{between, is_between}
 pub use Rattle.tatp_rows.specs.declared.ranges.TheConstants.{LAST_SUBSCRIBER}
 pub use Rattle.tatp_rows.specs.declared.refusal.Refusal.{Refusal}
 pub use Rattle.view_board.specs.Desks.{DeskState}
-pub use Rattle.hlr_lent.specs.Away.{IsAsking, allowed, refusal_of}
+pub use Rattle.hlr_lent.specs.Away.{IsAsking, IsAway, allowed, refusal_of}
 pub use Rattle.hlr_lent.specs.Jobs.{AreDone, IsBack, IsWorked}
 pub use Rattle.hlr_lent.specs.Rings.{HasRing, HaveRings, MayComeHome, lent_as}
 pub use Rattle.hlr_lent.specs.declared.ring.Message.{Message}

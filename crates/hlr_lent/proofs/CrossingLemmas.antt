@@ -13,8 +13,8 @@ use Rattle.tatp_actions.specs.contracts.trees.Trees as Trees
 use Rattle.view_board.proofs.board.Board.TheSendSync.{the_send as board_send, the_sync as board_sync}
 use Rattle.view_board.specs.contracts.board.Board as Board
 use Rattle.holding.specs.contracts.holding.Holding as Holding
-use Rattle.hlr_lent.specs.contracts.owner.Owner as Owner
-use Rattle.hlr_lent.specs.contracts.owner.Owner.TheInside as Inside
+use Rattle.hlr_lent.specs.contracts.lent_part.LentPart as LentPart
+use Rattle.hlr_lent.specs.contracts.lent_part.LentPart.TheInside as Inside
 use Rattle.hlr_lent.specs.contracts.ring.Message as Message
 use Rattle.hlr_lent.specs.contracts.ring.ReturnRule as ReturnRule
 use Rattle.hlr_lent.specs.contracts.ring.ReturnRuleProtocolMessage.TheImpl as rule
@@ -32,5 +32,5 @@ message_send = let holding = boxed_send in search (sendable, crosses) depth 20
 ring_send : IsSend (Producer.the_row Message.the_row Heap.the_row ReturnRule.the_row heap.ghosts rule.ghosts)
 ring_send = producer_send Message.the_row Heap.the_row ReturnRule.the_row heap.ghosts rule.ghosts message_send heap_send frees
 
-pub owner_send : IsSend Owner.the_row
-owner_send = view_send _ _ _ _ _ (declared_send Inside.the_type (boxed_send, (board_shared_send, (ring_send, tt))))
+pub lent_part_send : IsSend LentPart.the_row
+lent_part_send = view_send _ _ _ _ _ (declared_send Inside.the_type (boxed_send, (board_shared_send, (ring_send, tt))))

@@ -1,7 +1,8 @@
 -- Whether the parts are at home on which something works, and what an event leaves of who is out.
-use Rattle.hlr_lent.proofs.Common.{◌≡◌, ◌∙◌, refl, sym, ap, ℕ, zero, suc, ◌<◌, ◌≤◌, ◌+◌, List, [], ◌∷◌, length, get_or, drop, arith, true, false, Bool, Some, None, Ok, Err, inl, inr, Option, IfSome, Result, ◌≢◌, ◌⊎◌, ◌-◌, insert, remove, AllByRecursion, result_err, cases_lt, nat_tests, by_test, between, is_between, LAST_SUBSCRIBER, Refusal, recut_answer, lies_in, IsConsecutive, place_of, CutMove, Region, END, Action, Act, MayAnswer, outs_in, IsHomeToCut, IsHomeToMove, AreOwners, IsHomeFor, IsHomeFrom, OwnersState, book_in, homes_in, store_in, Store, lies_within, IsHomeTo, AreHomesAfter, HaveSameHomes, IsRightNow, is_here, IsAskedStep, IsStep, action_for, dissolved_reply, divided_reply, given_reply, taken_reply, Event, SubscriberData, NewDestination, AccessData, UpdateSubscriber, UpdateLocation, InsertForwarding, DeleteForwarding, AddSubscriber, AddAccess, AddFacility, SetActive, SetNumber, Give, Take, Divide, Dissolve, Reply, all_later_self, IsAsking, allowed, refusal_of, HaveRings}
+use Rattle.hlr_lent.proofs.Common.{◌≡◌, ◌∙◌, refl, sym, ap, ℕ, zero, suc, ◌<◌, ◌≤◌, ◌+◌, List, [], ◌∷◌, length, get_or, drop, arith, true, false, Bool, Some, None, Ok, Err, inl, inr, Option, IfSome, Result, ◌≢◌, ◌⊎◌, ◌-◌, insert, remove, AllByRecursion, result_err, cases_lt, nat_tests, by_test, between, is_between, LAST_SUBSCRIBER, Refusal, recut_answer, lies_in, IsConsecutive, place_of, CutMove, Region, END, Action, Act, MayAnswer, outs_in, IsHomeToCut, IsHomeToMove, AreOwners, IsHomeFor, IsHomeFrom, OwnersState, book_in, homes_in, store_in, Store, lies_within, IsHomeTo, AreHomesAfter, HaveSameHomes, is_here, IsStep, action_for, dissolved_reply, divided_reply, given_reply, taken_reply, Event, SubscriberData, NewDestination, AccessData, UpdateSubscriber, UpdateLocation, InsertForwarding, DeleteForwarding, AddSubscriber, AddAccess, AddFacility, SetActive, SetNumber, Give, Take, Divide, Dissolve, Reply, all_later_self, IsAsking, IsAskedJob, IsAway, IsRegisterStep, IsRouted, Now, Job, is_on_rows, with_outs, allowed, refusal_of, HaveRings}
 use Rattle.holding.specs.declared.job.Job.TheVariants.{Post as Posting}
 use Rattle.hlr_core.specs.declared.event.Event.TheVariants.{Post}
+use Rattle.tatp_rows.specs.declared.refusal.Refusal.TheVariants.{Field}
 use Rattle.hlr_core.specs.declared.event.Reply.TheVariants as reply
 use Rattle.hlr_lent.proofs.RingLemmas.{Ring, none_out}
 
@@ -83,45 +84,25 @@ module _ (h g : OwnersState) where
   pub rings_after : (event : Event) (r : Reply) (rings : List (Option Ring)) → IsHomeTo event h → AreHomesAfter event r h g → HaveRings (outs_in h.owners) rings → HaveRings (outs_in g.owners) rings
   rings_after event r rings home homes have q = rw (outs_after event r home homes q) (have q)
 
--- a refusal that is known at once is right
-pub right_here : (event : Event) (h : OwnersState) (r : Reply) → IsRightNow event h r → IsStep event (store_in h) r (store_in h)
-right_here event h r right = right h.owners (all_later_self h.owners)
+-- a refusal changes nobody's being at home or out
+refused_homes : (event : Event) (why : Refusal) (h : OwnersState) → AreHomesAfter event (reply.Refused why) h h
+refused_homes (Divide part at) why h = record { homes = refl; outs = refl; spare = refl }
+refused_homes (Dissolve part) why h = record { homes = refl; outs = refl; spare = refl }
+refused_homes _ why h = record { homes = refl; outs = refl; spare = refl }
 
-pub refused_here : (event : Event) (h : OwnersState) (r : Reply) (o : Option Refusal) → IsRightNow event h r → IfSome o (λ why. r ≡ reply.Refused why)
-    → IfSome o (λ why. IsStep event (store_in h) (reply.Refused why) (store_in h))
-refused_here event h r None right is = tt
-refused_here event h r (Some why) right is = right_here event h (reply.Refused why) (rw is at right)
+-- a refusal that is known at once is right, and nothing waits then
+pub refused_here : (event : Event) (why : Refusal) (h : OwnersState) → IsRouted event h (Now (reply.Refused why)) → IsRegisterStep event h (reply.Refused why) h
+refused_here event why h routed = record {
+  step = routed.0 h.owners (all_later_self h.owners);
+  homes = refused_homes event why h;
+  while_out = λ holdings later. routed.0 (with_outs h.owners holdings) later;
+}
 
--- what isn't refused at once asks for a job
-module _ (h : OwnersState) (said : Reply) (done : (why : Refusal) → said ≢ reply.Refused why) where
-  asks_action : (event : Event) (asked : Result Action Refusal) → action_for event (book_in h.owners) ≡ asked → IsAskedStep asked (store_in h) said (store_in h) → IsAsking event h
-  asks_action event (Ok act) is step = inr (0, Act act, is)
-  asks_action event (Err why) is step = absurd (done why step.0)
-
-  -- what the regions did they allow
-  lets : {A : Type 0} (wanted did : Result A Refusal) (told : Result A Refusal → Reply) → said ≡ told did → ((why : Refusal) → told (Err why) ≡ reply.Refused why) → MayAnswer wanted did
-      → refusal_of wanted ≡ Ok tt
-  lets (Ok x) did told is tells may = refl
-  lets (Err why) did told is tells may = absurd (done why (is ∙ ap told may ∙ tells why))
-
-  pub asks_now : (event : Event) → IsStep event (store_in h) said (store_in h) → IsAsking event h
-  asks_now (SubscriberData s_id) step = asks_action (SubscriberData s_id) _ refl step
-  asks_now (NewDestination s_id t a e) step = asks_action (NewDestination s_id t a e) _ refl step
-  asks_now (AccessData s_id t) step = asks_action (AccessData s_id t) _ refl step
-  asks_now (UpdateSubscriber s_id t bit d) step = asks_action (UpdateSubscriber s_id t bit d) _ refl step
-  asks_now (UpdateLocation n v) step = asks_action (UpdateLocation n v) _ refl step
-  asks_now (InsertForwarding n t a e x) step = asks_action (InsertForwarding n t a e x) _ refl step
-  asks_now (DeleteForwarding n t a) step = asks_action (DeleteForwarding n t a) _ refl step
-  asks_now (AddSubscriber row) step = inl (refl, refl)
-  asks_now (AddAccess row) step = asks_action (AddAccess row) _ refl step
-  asks_now (AddFacility row) step = asks_action (AddFacility row) _ refl step
-  asks_now (SetActive s_id t v) step = asks_action (SetActive s_id t v) _ refl step
-  asks_now (SetNumber s_id n) step = inl (refl, refl)
-  asks_now (Post part limit) step = inr (part, Posting limit, refl)
-  asks_now (Give part side at) step = inl (refl, lets _ step.0 given_reply step.2 (λ why. refl) step.1)
-  asks_now (Take piece part) step = inl (refl, lets _ step.0 (taken_reply piece part) step.2 (λ why. refl) step.1)
-  asks_now (Divide part at) step = inl (refl, lets _ step.0 divided_reply step.2 (λ why. refl) step.1)
-  asks_now (Dissolve part) step = inl (refl, lets _ step.0 dissolved_reply step.2 (λ why. refl) step.1)
+pub not_away : (event : Event) (why : Refusal) (h : OwnersState) → IsRouted event h (Now (reply.Refused why)) → IsAway event h → ⊥
+not_away event why h routed away = away.out (routed.1 (elim away.asking [
+  | inl here ↦ inl here.0
+  | inr job ↦ inr job
+]))
 
 -- what the regions refuse is a right step, which changes nothing
 barred_by : {A : Type 0} (wanted : Result A Refusal) (why : Refusal) → refusal_of wanted ≡ Err why → MayAnswer wanted (Err why)
@@ -157,16 +138,60 @@ module _ (h : OwnersState) (why : Refusal) where
   barred (SetNumber s_id n) is = not_barred _ refl is
   barred (Post part limit) is = not_barred _ refl is
 
--- so is the refusal of the regions, if they refuse; else the event asks for what the register does
-module _ (h : OwnersState) (event : Event) where
-  pub here_barred : {P : Refusal → Type 0} (r : Result (Unit {0}) Refusal) → r ≡ allowed event h.regions → ((why : Refusal) → IsBarred h why event → P why)
-      → IfSome (result_err r) P
-  here_barred (Ok done) is gives = tt
-  here_barred (Err why) is gives = gives why (barred h why event (sym is))
+-- what the regions refuse asks for nothing
+module _ (h : OwnersState) (why : Refusal) where
+  no_work : (event : Event) → allowed event h.regions ≡ Err why → ((part : ℕ) (job : Job) → IsAskedJob event h part job → ⊥) → IsAsking event h → ⊥
+  no_work event is none (inl here) = not_barred h why (allowed event h.regions) here.1 is
+  no_work event is none (inr job) = none job.0 job.1 job.2
 
-  pub here_asks : (r : Result (Unit {0}) Refusal) → r ≡ allowed event h.regions → is_here event ≡ true → result_err r ≡ None → IsAsking event h
-  here_asks (Ok done) is here none = inl (here, sym is)
-  here_asks (Err why) is here none = absurd (let clash : Some why ≡ None = none in cc)
+  no_job : (event : Event) (part : ℕ) (job : Job) → is_on_rows event ≡ false → ((p l : ℕ) → event ≢ Post p l) → action_for event (book_in h.owners) ≡ Err Field → IsAskedJob event h part job → ⊥
+  no_job event part (Act act) rows other refused asked = let clash : Err Field ≡ Ok act = sym refused ∙ asked in cc
+  no_job event part (Posting limit) rows other refused asked = other part limit asked
+
+  asks_nothing : (event : Event) → allowed event h.regions ≡ Err why → IsAsking event h → ⊥
+  asks_nothing (Give part side at) is = no_work (Give part side at) is (λ p job. no_job (Give part side at) p job refl (λ q l clash. cc) refl)
+  asks_nothing (Take piece part) is = no_work (Take piece part) is (λ p job. no_job (Take piece part) p job refl (λ q l clash. cc) refl)
+  asks_nothing (Divide part at) is = no_work (Divide part at) is (λ p job. no_job (Divide part at) p job refl (λ q l clash. cc) refl)
+  asks_nothing (Dissolve part) is = no_work (Dissolve part) is (λ p job. no_job (Dissolve part) p job refl (λ q l clash. cc) refl)
+  asks_nothing (SubscriberData s_id) is = not_barred h why _ refl is
+  asks_nothing (NewDestination s_id t a e) is = not_barred h why _ refl is
+  asks_nothing (AccessData s_id t) is = not_barred h why _ refl is
+  asks_nothing (UpdateSubscriber s_id t bit d) is = not_barred h why _ refl is
+  asks_nothing (UpdateLocation n v) is = not_barred h why _ refl is
+  asks_nothing (InsertForwarding n t a e x) is = not_barred h why _ refl is
+  asks_nothing (DeleteForwarding n t a) is = not_barred h why _ refl is
+  asks_nothing (AddSubscriber row) is = not_barred h why _ refl is
+  asks_nothing (AddAccess row) is = not_barred h why _ refl is
+  asks_nothing (AddFacility row) is = not_barred h why _ refl is
+  asks_nothing (SetActive s_id t v) is = not_barred h why _ refl is
+  asks_nothing (SetNumber s_id n) is = not_barred h why _ refl is
+  asks_nothing (Post part limit) is = not_barred h why _ refl is
+
+-- so the refusal of the regions is right, if they refuse, and nothing waits then; else the event asks for what the
+-- register does
+module _ (h : OwnersState) (event : Event) (r : Result (Unit {0}) Refusal) (is : r ≡ allowed event h.regions) where
+  pub here_refused : IfSome (result_err r) (λ why. IsRegisterStep event h (reply.Refused why) h)
+  here_refused = refused r is
+    where
+      refused : (r : Result (Unit {0}) Refusal) → r ≡ allowed event h.regions → IfSome (result_err r) (λ why. IsRegisterStep event h (reply.Refused why) h)
+      refused (Ok done) is = tt
+      refused (Err why) is =
+          let right = barred h why event (sym is) in
+          record { step = right.0 _ refl; homes = right.1; while_out = λ holdings later. right.0 _ refl }
+
+  pub here_known : IfSome (result_err r) (λ why. IsAway event h → ⊥)
+  here_known = known r is
+    where
+      known : (r : Result (Unit {0}) Refusal) → r ≡ allowed event h.regions → IfSome (result_err r) (λ why. IsAway event h → ⊥)
+      known (Ok done) is = tt
+      known (Err why) is = λ away. asks_nothing h why event (sym is) away.asking
+
+  pub here_asks : is_here event ≡ true → result_err r ≡ None → IsAsking event h
+  here_asks here none = asks r is none
+    where
+      asks : (r : Result (Unit {0}) Refusal) → r ≡ allowed event h.regions → result_err r ≡ None → IsAsking event h
+      asks (Ok done) is none = inl (here, sym is)
+      asks (Err why) is none = absurd (let clash : Some why ≡ None = none in cc)
 
 -- a number out of range lies in no region, so nobody is out who has it
 regions_end : (from : ℕ) (regions : List Region) → IsConsecutive from regions → from ≤ END

@@ -4,4 +4,5 @@ pub mod CrossingLemmas
 pub mod EventLemmas
 pub mod JobLemmas
 pub mod RingLemmas
+mod SentLemmas
 pub mod RegionOwnerLemmas

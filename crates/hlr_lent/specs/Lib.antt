@@ -1,3 +1,4 @@
 pub mod Away
 pub mod Jobs
 pub mod Rings
+pub mod Sent

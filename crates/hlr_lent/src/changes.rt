@@ -1,9 +1,9 @@
 //! The events on rows, and a posting, as calls of their own: each as the register's own call, where the parts on which
 //! it works are at home. It is right whatever jobs have done to the holdings that are out.
-ghost use Rattle.hlr_owners.specs.Owners.{IsPartHome, store_in};
-ghost use Rattle.hlr_core.specs.WhileOut.{IsStepWhileOut};
-ghost use Rattle.hlr_core.specs.Home.{IsHomeTo, HaveSameHomes};
-ghost use Rattle.hlr_core.specs.Step.{IsStep, edited_reply};
+ghost use Rattle.hlr_owners.specs.Owners.{IsPartHome};
+ghost use Rattle.hlr_core.specs.WhileOut.{IsRegisterStep};
+ghost use Rattle.hlr_core.specs.Home.{IsHomeTo};
+ghost use Rattle.hlr_core.specs.Step.{edited_reply};
 ghost use Rattle.hlr_core.specs.declared.event.Event.TheVariants as event;
 
 use crate::lender::Lender;
@@ -19,9 +19,7 @@ impl Lender {
         data_a: u64,
     ) -> Result<(), Refusal>
         requires { IsHomeTo (event.UpdateSubscriber s_id sf_type bit_1 data_a) self.old }
-        ensures step { IsStep (event.UpdateSubscriber s_id sf_type bit_1 data_a) (store_in self.old) (edited_reply result) (store_in self.new) }
-        ensures homes { HaveSameHomes self.old self.new }
-        ensures while_out { IsStepWhileOut (event.UpdateSubscriber s_id sf_type bit_1 data_a) self.old (edited_reply result) self.new }
+        ensures { IsRegisterStep (event.UpdateSubscriber s_id sf_type bit_1 data_a) self.old (edited_reply result) self.new }
     {
         self.register
             .update_subscriber(s_id, sf_type, bit_1, data_a)
@@ -30,9 +28,7 @@ impl Lender {
     /// Does UPDATE_LOCATION, as `Register::update_location`.
     pub fn update_location(&mut self, sub_nbr: Number, vlr_location: u64) -> Result<(), Refusal>
         requires { IsHomeTo (event.UpdateLocation sub_nbr vlr_location) self.old }
-        ensures step { IsStep (event.UpdateLocation sub_nbr vlr_location) (store_in self.old) (edited_reply result) (store_in self.new) }
-        ensures homes { HaveSameHomes self.old self.new }
-        ensures while_out { IsStepWhileOut (event.UpdateLocation sub_nbr vlr_location) self.old (edited_reply result) self.new }
+        ensures { IsRegisterStep (event.UpdateLocation sub_nbr vlr_location) self.old (edited_reply result) self.new }
     {
         self.register.update_location(sub_nbr, vlr_location)
     }
@@ -47,9 +43,7 @@ impl Lender {
         numberx: Number,
     ) -> Result<(), Refusal>
         requires { IsHomeTo (event.InsertForwarding sub_nbr sf_type start_time end_time numberx) self.old }
-        ensures step { IsStep (event.InsertForwarding sub_nbr sf_type start_time end_time numberx) (store_in self.old) (edited_reply result) (store_in self.new) }
-        ensures homes { HaveSameHomes self.old self.new }
-        ensures while_out { IsStepWhileOut (event.InsertForwarding sub_nbr sf_type start_time end_time numberx) self.old (edited_reply result) self.new }
+        ensures { IsRegisterStep (event.InsertForwarding sub_nbr sf_type start_time end_time numberx) self.old (edited_reply result) self.new }
     {
         self.register
             .insert_forwarding(sub_nbr, sf_type, start_time, end_time, numberx)
@@ -63,9 +57,7 @@ impl Lender {
         start_time: u64,
     ) -> Result<(), Refusal>
         requires { IsHomeTo (event.DeleteForwarding sub_nbr sf_type start_time) self.old }
-        ensures step { IsStep (event.DeleteForwarding sub_nbr sf_type start_time) (store_in self.old) (edited_reply result) (store_in self.new) }
-        ensures homes { HaveSameHomes self.old self.new }
-        ensures while_out { IsStepWhileOut (event.DeleteForwarding sub_nbr sf_type start_time) self.old (edited_reply result) self.new }
+        ensures { IsRegisterStep (event.DeleteForwarding sub_nbr sf_type start_time) self.old (edited_reply result) self.new }
     {
         self.register
             .delete_forwarding(sub_nbr, sf_type, start_time)
@@ -74,9 +66,7 @@ impl Lender {
     /// Adds a Subscriber row, as `Register::add_subscriber`.
     pub fn add_subscriber(&mut self, row: Subscriber) -> Result<(), Refusal>
         requires { IsHomeTo (event.AddSubscriber row) self.old }
-        ensures step { IsStep (event.AddSubscriber row) (store_in self.old) (edited_reply result) (store_in self.new) }
-        ensures homes { HaveSameHomes self.old self.new }
-        ensures while_out { IsStepWhileOut (event.AddSubscriber row) self.old (edited_reply result) self.new }
+        ensures { IsRegisterStep (event.AddSubscriber row) self.old (edited_reply result) self.new }
     {
         self.register.add_subscriber(row)
     }
@@ -84,9 +74,7 @@ impl Lender {
     /// Adds an Access_Info row, as `Register::add_access`.
     pub fn add_access(&mut self, row: Access) -> Result<(), Refusal>
         requires { IsHomeTo (event.AddAccess row) self.old }
-        ensures step { IsStep (event.AddAccess row) (store_in self.old) (edited_reply result) (store_in self.new) }
-        ensures homes { HaveSameHomes self.old self.new }
-        ensures while_out { IsStepWhileOut (event.AddAccess row) self.old (edited_reply result) self.new }
+        ensures { IsRegisterStep (event.AddAccess row) self.old (edited_reply result) self.new }
     {
         self.register.add_access(row)
     }
@@ -94,9 +82,7 @@ impl Lender {
     /// Adds a Special_Facility row, as `Register::add_facility`.
     pub fn add_facility(&mut self, row: Facility) -> Result<(), Refusal>
         requires { IsHomeTo (event.AddFacility row) self.old }
-        ensures step { IsStep (event.AddFacility row) (store_in self.old) (edited_reply result) (store_in self.new) }
-        ensures homes { HaveSameHomes self.old self.new }
-        ensures while_out { IsStepWhileOut (event.AddFacility row) self.old (edited_reply result) self.new }
+        ensures { IsRegisterStep (event.AddFacility row) self.old (edited_reply result) self.new }
     {
         self.register.add_facility(row)
     }
@@ -104,9 +90,7 @@ impl Lender {
     /// Switches a facility on or off, as `Register::set_active`.
     pub fn set_active(&mut self, s_id: u64, sf_type: u64, is_active: u64) -> Result<(), Refusal>
         requires { IsHomeTo (event.SetActive s_id sf_type is_active) self.old }
-        ensures step { IsStep (event.SetActive s_id sf_type is_active) (store_in self.old) (edited_reply result) (store_in self.new) }
-        ensures homes { HaveSameHomes self.old self.new }
-        ensures while_out { IsStepWhileOut (event.SetActive s_id sf_type is_active) self.old (edited_reply result) self.new }
+        ensures { IsRegisterStep (event.SetActive s_id sf_type is_active) self.old (edited_reply result) self.new }
     {
         self.register.set_active(s_id, sf_type, is_active)
     }
@@ -114,9 +98,7 @@ impl Lender {
     /// Gives a subscriber another number, as `Register::set_number`.
     pub fn set_number(&mut self, s_id: u64, sub_nbr: Number) -> Result<(), Refusal>
         requires { IsHomeTo (event.SetNumber s_id sub_nbr) self.old }
-        ensures step { IsStep (event.SetNumber s_id sub_nbr) (store_in self.old) (edited_reply result) (store_in self.new) }
-        ensures homes { HaveSameHomes self.old self.new }
-        ensures while_out { IsStepWhileOut (event.SetNumber s_id sub_nbr) self.old (edited_reply result) self.new }
+        ensures { IsRegisterStep (event.SetNumber s_id sub_nbr) self.old (edited_reply result) self.new }
     {
         self.register.set_number(s_id, sub_nbr)
     }
@@ -124,9 +106,7 @@ impl Lender {
     /// Posts what is pending of a part, as `Register::post`.
     pub fn post(&mut self, part: u64, limit: u64) -> Reply
         requires { IsPartHome part self.old }
-        ensures step { IsStep (event.Post part limit) (store_in self.old) result (store_in self.new) }
-        ensures homes { HaveSameHomes self.old self.new }
-        ensures while_out { IsStepWhileOut (event.Post part limit) self.old result self.new }
+        ensures { IsRegisterStep (event.Post part limit) self.old result self.new }
     {
         self.register.post(part, limit)
     }

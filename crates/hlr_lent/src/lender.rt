@@ -1,21 +1,19 @@
 //! A register that lends its parts.
-ghost use Rattle.std.specs.Prelude.{◌≡◌, ◌≢◌, ◌<◌, true, false, IsTrue, None, Some, IfOk, IfSome, OnErr, length, slice_index_or, slice_set};
+ghost use Rattle.std.specs.Prelude.{◌≡◌, ◌<◌, true, false, IsTrue, None, Some, IfOk, IfSome, OnErr, length, slice_index_or, slice_set};
 ghost use Rattle.view_board.specs.Desks.{with_view};
 ghost use Rattle.view_board.specs.Views.{looked};
-ghost use Rattle.hlr_owners.specs.Recut.{IsHomeToCut, IsRecut};
+ghost use Rattle.hlr_owners.specs.Recut.{IsHomeToCut};
 ghost use Rattle.hlr_owners.specs.Owners.{AllHome, AreOwners, IsLent, homes_in, store_in};
 ghost use Rattle.hlr_owners.specs.Sight.{IsSightOf};
-ghost use Rattle.hlr_core.specs.WhileOut.{IsRecutWhileOut, IsStepWhileOut};
-ghost use Rattle.hlr_core.specs.Home.{IsHomeTo, AreHomesAfter, HaveSameHomes};
-ghost use Rattle.hlr_core.specs.Step.{IsStep};
-ghost use Rattle.tatp_rows.specs.declared.refusal.Refusal.{Refusal as Refusals};
+ghost use Rattle.hlr_core.specs.WhileOut.{IsRegisterRecut, IsRegisterStep};
+ghost use Rattle.hlr_core.specs.Home.{IsHomeTo};
 ghost use Rattle.hlr_lent.specs.Away.{IsAsking, IsAway, allowed};
 ghost use Rattle.hlr_lent.specs.Jobs.{IsBack};
 
-use crate::owner::Owner;
+use crate::lent_part::LentPart;
 use crate::ring::{LenderEnd, arrived, ring, tell};
 use arrayvec::ArrayVec;
-use hlr_core::{Event, Regions, Register, Reply, Route, Sight};
+use hlr_core::{Event, Regions, Register, Reply, Sight, TaskRoute};
 use part_table::MOST_PARTS;
 use std::alloc::Global;
 use std::marker::Model;
@@ -63,22 +61,6 @@ fn put_ring(rings: &mut ArrayVec<Option<LenderEnd>, 16>, part: u8, ring: LenderE
     ensures { rings.new.items ≡ slice_set rings.old.items part (Some ring) }
 {
     rings.as_mut_slice()[usize::from(part)] = Some(ring);
-}
-
-/// The refusal that a reply tells, if it does.
-fn refusal_in(reply: &Reply) -> Option<Refusal>
-    ensures refused { IfSome result (λ why. reply.now ≡ Reply.Refused why) }
-    ensures none { result ≡ None → (why : Refusals) → reply.now ≢ Reply.Refused why }
-{
-    match *reply {
-        Reply::Refused(why) => Some(why),
-        Reply::Rows(_)
-        | Reply::Posted(_)
-        | Reply::Given { .. }
-        | Reply::Taken { .. }
-        | Reply::Divided { .. }
-        | Reply::Dissolved { .. } => None,
-    }
 }
 
 /// Whether the regions allow an event that moves them, or has a part come or go; they tell why they don't.
@@ -141,27 +123,27 @@ impl Lender {
         register
     }
 
-    /// Lends a part that is at home to an owner, for whatever thread. `Memory` where a growth was refused: then nothing
+    /// Lends a part that is at home, for whatever thread. `Memory` where a growth was refused: then nothing
     /// is changed.
-    pub fn lend(&mut self, alloc: Global, part: u8) -> Result<Box<Owner>, Refusal>
+    pub fn lend(&mut self, alloc: Global, part: u8) -> Result<Box<LentPart>, Refusal>
         requires { slice_index_or (homes_in self.old.owners) part false ≡ true }
-        ensures lent { IfOk result (λ owner. IsLent part self.old owner.value self.new) }
+        ensures lent { IfOk result (λ lent. IsLent part self.old lent.value self.new) }
         ensures refused { OnErr result ((self.new ≡ self.old) × (result ≡ Err Refusal.Memory)) }
     {
         self.register.rules();
-        let Ok((mut owner_end, mut lender_end)) = ring(alloc) else {
+        let Ok((mut part_end, mut lender_end)) = ring(alloc) else {
             return Err(Refusal::Memory);
         };
         let Ok(board) = Arc::try_clone(self.register.board()) else {
             return Err(Refusal::Memory);
         };
         let holding = self.register.lend(part);
-        tell(&mut owner_end, &mut lender_end, &holding);
-        match Box::new(alloc, Owner::of(holding, board, owner_end)) {
-            Ok(owner) => {
+        tell(&mut part_end, &mut lender_end, &holding);
+        match Box::new(alloc, LentPart::of(holding, board, part_end)) {
+            Ok(lent) => {
                 put_ring(&mut self.rings, part, lender_end);
                 self.lends = true;
-                Ok(owner)
+                Ok(lent)
             }
             Err(refused) => {
                 self.register.back(refused.value.into_holding());
@@ -170,7 +152,7 @@ impl Lender {
         }
     }
 
-    /// Takes a part in that its owner has sent home, and tells whether it did: a part at home, or none, hasn't come. It
+    /// Takes a part in that was sent home, and tells whether it did: a part at home, or none, hasn't come. It
     /// takes no memory, and never waits.
     pub fn back(&mut self, part: u8) -> bool
         ensures come { IsTrue result → IsBack part self.old self.new }
@@ -197,9 +179,7 @@ impl Lender {
     /// have done to the holdings that are out.
     pub fn apply(&mut self, event: Event) -> Reply
         requires { IsHomeTo event self.old }
-        ensures step { IsStep event (store_in self.old) result (store_in self.new) }
-        ensures homes { AreHomesAfter event result self.old self.new }
-        ensures while_out { IsStepWhileOut event self.old result self.new }
+        ensures { IsRegisterStep event self.old result self.new }
     {
         self.register.apply(event)
     }
@@ -208,24 +188,22 @@ impl Lender {
     /// its range, a number that nobody has, and a subscriber in a loose piece; of a posting a part that isn't there;
     /// and whatever the regions refuse.
     pub fn known(&self, event: &Event) -> Option<Refusal>
-        ensures step { IfSome result (λ why. IsStep event.now (store_in self.now) (Reply.Refused why) (store_in self.now)) }
-        ensures homes { IfSome result (λ why. AreHomesAfter event.now (Reply.Refused why) self.now self.now) }
-        ensures while_out { IfSome result (λ why. IsStepWhileOut event.now self.now (Reply.Refused why) self.now) }
+        ensures step { IfSome result (λ why. IsRegisterStep event.now self.now (Reply.Refused why) self.now) }
+        ensures here { IfSome result (λ why. ¬ (IsAway event.now self.now)) }
         ensures asking { result ≡ None → IsAsking event.now self.now }
     {
-        match self.register.route(event) {
-            Route::Now(reply) => refusal_in(&reply),
-            Route::Here => allowed(self.register.regions(), event).err(),
-            Route::To(..) => None,
+        match self.register.route_task(event) {
+            TaskRoute::Refused(why) => Some(why),
+            TaskRoute::Here => allowed(self.register.regions(), event).err(),
+            TaskRoute::To(..) => None,
         }
     }
 
-    /// Applies an event, or gives `None` where a part on which it works is out: then nothing is changed. A refusal that
-    /// is `known` is answered even then.
+    /// Applies an event, or gives `None` where it waits for a part that is out: then nothing is changed. A refusal that
+    /// is `known` is answered even then, and an event that doesn't wait is answered in any case.
     pub fn ask(&mut self, event: Event) -> Option<Reply>
-        ensures step { IfSome result (λ reply. IsStep event (store_in self.old) reply (store_in self.new)) }
-        ensures homes { IfSome result (λ reply. AreHomesAfter event reply self.old self.new) }
-        ensures while_out { IfSome result (λ reply. IsStepWhileOut event self.old reply self.new) }
+        ensures step { IfSome result (λ reply. IsRegisterStep event self.old reply self.new) }
+        ensures here { IfSome result (λ reply. ¬ (IsAway event self.old)) }
         ensures away { result ≡ None → IsAway event self.old }
         ensures same { result ≡ None → self.new ≡ self.old }
     {
@@ -242,9 +220,7 @@ impl Lender {
     /// `Register::recut_to`.
     pub fn recut_to(&mut self, bounds: &[u64]) -> Result<u8, Refusal>
         requires { IsHomeToCut bounds.now self.old }
-        ensures recut { IsRecut bounds.now (store_in self.old) result (store_in self.new) }
-        ensures homes { HaveSameHomes self.old self.new }
-        ensures while_out { IsRecutWhileOut bounds.now self.old result self.new }
+        ensures { IsRegisterRecut bounds.now self.old result self.new }
     {
         self.register.recut_to(bounds)
     }

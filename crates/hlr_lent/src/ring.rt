@@ -25,32 +25,32 @@ impl Protocol<Message> for ReturnRule {
     ghost allows = { MayFollow };
 }
 
-/// The end of the owner, who sends the holding home.
-pub type OwnerEnd = Producer<Message, Global, ReturnRule>;
+/// The end of the lent part, which sends the holding home.
+pub type PartEnd = Producer<Message, Global, ReturnRule>;
 
 /// The end of the lender, who takes it in.
 pub type LenderEnd = Consumer<Message, Global, ReturnRule>;
 
 /// Makes a ring through which nothing has gone yet.
-pub(crate) fn ring(alloc: Global) -> Result<(OwnerEnd, LenderEnd), AllocError>
+pub(crate) fn ring(alloc: Global) -> Result<(PartEnd, LenderEnd), AllocError>
     ensures pair { IfOk result (λ ends. IsPair ends.0 ends.1) }
-    ensures owner { IfOk result (λ ends. (sent ends.0 ≡ []) × (known_free ends.0 ≡ 2)) }
+    ensures part { IfOk result (λ ends. (sent ends.0 ≡ []) × (known_free ends.0 ≡ 2)) }
     ensures lender { IfOk result (λ ends. (received ends.1 ≡ []) × (known_items ends.1 ≡ [])) }
 {
     RingBuffer::with_protocol::<Global, ReturnRule>(alloc, 2)
 }
 
 /// Tells both ends how the holding is that is lent.
-pub(crate) fn tell(owner: &mut OwnerEnd, lender: &mut LenderEnd, holding: &Holding)
-    requires pair { IsPair owner.old lender.old }
-    requires owner { (sent owner.old ≡ []) × (known_free owner.old ≡ 2) }
+pub(crate) fn tell(part: &mut PartEnd, lender: &mut LenderEnd, holding: &Holding)
+    requires pair { IsPair part.old lender.old }
+    requires part { (sent part.old ≡ []) × (known_free part.old ≡ 2) }
     requires lender { (received lender.old ≡ []) × (known_items lender.old ≡ []) }
-    ensures owner { lent_as (sent owner.new) ≡ Some holding.now }
-    ensures room { 0 < known_free owner.new }
+    ensures part { lent_as (sent part.new) ≡ Some holding.now }
+    ensures room { 0 < known_free part.new }
     ensures lender { lent_as (received lender.new) ≡ Some holding.now }
 {
-    owner.push_reserved(Message::Lent(Snapshot::of(holding)));
-    lender.slots_beside(owner);
+    part.push_reserved(Message::Lent(Snapshot::of(holding)));
+    lender.slots_beside(part);
     let _lent = lender.pop_known();
 }
 

@@ -5,7 +5,7 @@ use crate::tests::{
     read, row,
 };
 use hlr_core::{Event, Register, Reply, Side};
-use hlr_lent::{Lender, Owner};
+use hlr_lent::{Lender, LentPart};
 use std::alloc::Global;
 use std::num::NonZeroU32;
 use std::process::Abort;
@@ -45,7 +45,7 @@ fn opened(rt: &impl Abort, alloc: Global) -> Lender {
 }
 
 /// The owner of a part that is at home.
-fn lent(rt: &impl Abort, alloc: Global, lender: &mut Lender, part: u8) -> Box<Owner> {
+fn lent(rt: &impl Abort, alloc: Global, lender: &mut Lender, part: u8) -> Box<LentPart> {
     if !lender.register().at_home(part) {
         panic!(rt; "the part is out")
     }
@@ -56,7 +56,7 @@ fn lent(rt: &impl Abort, alloc: Global, lender: &mut Lender, part: u8) -> Box<Ow
 }
 
 /// The same at the second try: a lend that was refused has left the part at home.
-fn lent_again(rt: &impl Abort, alloc: Global, lender: &mut Lender, part: u8) -> Box<Owner> {
+fn lent_again(rt: &impl Abort, alloc: Global, lender: &mut Lender, part: u8) -> Box<LentPart> {
     if !lender.register().at_home(part) {
         panic!(rt; "a lend that was refused keeps the part")
     }
@@ -64,7 +64,7 @@ fn lent_again(rt: &impl Abort, alloc: Global, lender: &mut Lender, part: u8) -> 
 }
 
 /// An owner moves its subscriber 7 to location 9, and posts.
-fn work(rt: &impl Abort, owner: &mut Owner) {
+fn work(rt: &impl Abort, owner: &mut LentPart) {
     if !owner.has(7) {
         panic!(rt; "the part has the subscriber")
     }

@@ -1,6 +1,6 @@
 use Rattle.hlr_lent.proofs.Common.{◌∙◌, ap, refl, sent, done_reply, DeskState, HoldingState, Act, IsActed, reply_of}
 use Rattle.hlr_lent.proofs.JobLemmas.{one_more}
-use Rattle.hlr_lent.proofs.owner.Owner.edit.Goals as goal
+use Rattle.hlr_lent.proofs.lent_part.LentPart.edit.Goals as goal
 
 pub invariant_of-self : goal.invariant_of-self
 invariant_of-self g c =

@@ -1,4 +1,4 @@
-//! A part that is out, in the hands of its owner.
+//! A part that is out.
 ghost use Rattle.std.specs.Prelude.{◌≡◌, ◌<◌, ◌≤◌, ◌↔◌, IsTrue, None, Some, [], length, map, option_copied};
 ghost use Rattle.std.specs.Arc.{arc_value};
 ghost use Rattle.rtrb.specs.Ring.{known_free, sent};
@@ -9,8 +9,9 @@ ghost use Rattle.holding.specs.declared.job.Job.TheVariants as job;
 ghost use Rattle.hlr_core.specs.Session.{IsJobDone};
 ghost use Rattle.hlr_core.specs.Step.{given_number, posted_reply, reply_of};
 ghost use Rattle.hlr_lent.specs.Rings.{lent_as};
+ghost use Rattle.hlr_lent.specs.Sent.{holding_sent};
 
-use crate::ring::{Message, OwnerEnd};
+use crate::ring::{Message, PartEnd};
 use arrayvec::ArrayVec;
 use holding::Holding;
 use std::marker::Model;
@@ -24,13 +25,13 @@ use view_board::Board;
 ///
 /// It goes home by `send_home`, from whatever thread. One that is dropped takes its rows along, and its part stays out.
 #[derive(Drop)]
-pub struct Owner {
+pub struct LentPart {
     holding: Box<Holding>,
     board: Arc<Board>,
-    ring: OwnerEnd,
+    ring: PartEnd,
 }
 
-impl Model for Owner {
+impl Model for LentPart {
     ghost use Rattle.std.specs.Prelude.{◌≡◌, ◌<◌};
     ghost use Rattle.std.specs.Arc.{arc_value};
     ghost use Rattle.rtrb.specs.Ring.{known_free, sent};
@@ -44,15 +45,21 @@ impl Model for Owner {
     ghost invariant = { λ o. (o.holding.value.desk.board ≡ arc_value o.board) × (0 < known_free o.ring) × MayComeHome (sent o.ring) o.holding.value };
 }
 
-impl Owner {
-    /// Makes the owner of a part that was just lent.
-    pub(crate) fn of(holding: Box<Holding>, board: Arc<Board>, ring: OwnerEnd) -> Owner
+/// What is left of a lent part that went home. It has no row, and no use but to say which holding was sent.
+#[derive(Drop)]
+pub struct Sent {
+    ring: PartEnd,
+}
+
+impl LentPart {
+    /// Makes the lent part of a holding that was just lent.
+    pub(crate) fn of(holding: Box<Holding>, board: Arc<Board>, ring: PartEnd) -> LentPart
         requires board { holding.value.desk.board ≡ arc_value board }
         requires told { lent_as (sent ring) ≡ Some holding.value }
         requires room { 0 < known_free ring }
         ensures { result ≡ holding.value }
     {
-        Owner {
+        LentPart {
             holding,
             board,
             ring,
@@ -63,7 +70,7 @@ impl Owner {
     pub(crate) fn into_holding(self) -> Box<Holding>
         ensures { result.value ≡ self }
     {
-        let Owner {
+        let LentPart {
             holding,
             board: _board,
             ring: _ring,
@@ -179,13 +186,17 @@ impl Owner {
         self.holding.post(&self.board, limit)
     }
 
-    /// Sends the part home, where `Lender::back` takes it in. It takes no memory, and never waits.
-    pub fn send_home(self) {
-        let Owner {
+    /// Sends the part home as it is, where `Lender::back` takes it in. It takes no memory, and never waits. What it
+    /// returns says which holding was sent, and may be dropped at once.
+    pub fn send_home(self) -> Sent
+        ensures { holding_sent result ≡ Some self }
+    {
+        let LentPart {
             holding,
             board: _board,
             mut ring,
         } = self;
         ring.push_reserved(Message::Home(holding));
+        Sent { ring }
     }
 }

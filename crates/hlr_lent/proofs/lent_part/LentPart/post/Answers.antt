@@ -1,6 +1,6 @@
 use Rattle.hlr_lent.proofs.Common.{◌∙◌, ap, refl, sent, HoldingState, Post, IsPosted, posted_reply}
 use Rattle.hlr_lent.proofs.JobLemmas.{one_more}
-use Rattle.hlr_lent.proofs.owner.Owner.post.Goals as goal
+use Rattle.hlr_lent.proofs.lent_part.LentPart.post.Goals as goal
 
 pub invariant_of-self : goal.invariant_of-self
 invariant_of-self c =
