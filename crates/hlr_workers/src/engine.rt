@@ -243,46 +243,9 @@ fn answer<G: Gate + 'static, R: Threads + Wait + Copy + Send + Sync + 'static>(
     }
 }
 
-/// Brings the parts home on both sides of each bound that a re-cut moves; their workers were told to stop.
-fn join_sides<G: Gate, R: Threads + Wait>(
-    rt: &R,
-    workers: &mut Workers,
-    replies: &mut Vec<(u64, Reply)>,
-    gate: &Arc<G>,
-    bounds: &[u64],
-)
-    requires kept { IsKept workers.old replies.old.items }
-    ensures brought { AreBrought workers.old replies.old workers.new replies.new }
-    ensures home { IsHomeToCut bounds.now workers.new.register }
-    ensures still { NoneOut workers.old → NoneOut workers.new }
-{
-    let Ok(moves) = workers.register().regions().moves_to(bounds) else {
-        return;
-    };
-    for bound_move in moves.as_slice() {
-        join(
-            rt,
-            workers,
-            replies,
-            gate,
-            bound_move.bound.saturating_sub(1),
-        );
-        join(rt, workers, replies, gate, bound_move.bound);
-    }
-}
-
-/// Tells the workers on both sides of each bound that a re-cut moves to stop.
-fn stop_sides<R: Wait>(rt: &R, workers: &mut Workers, bounds: &[u64])
-    ensures { workers.new ≡ workers.old }
-{
-    let Ok(moves) = workers.register().regions().moves_to(bounds) else {
-        return;
-    };
-    workers.stop_sides(rt, moves.as_slice());
-}
-
-/// Brings the parts home on both sides of each bound that a re-cut moves: all their workers are told to stop before the
-/// first is waited for.
+/// Brings the parts home on both sides of each bound that a re-cut moves. First all jobs that are held are handed on,
+/// and all workers of these parts are told to stop; only then is the first of them waited for. It may wait. Where the
+/// bounds are refused nothing is handed on, and nobody is brought home.
 fn bring_sides_home<G: Gate, R: Threads + Wait>(
     rt: &R,
     workers: &mut Workers,
@@ -295,9 +258,21 @@ fn bring_sides_home<G: Gate, R: Threads + Wait>(
     ensures home { IsHomeToCut bounds.now workers.new.register }
     ensures still { NoneOut workers.old → NoneOut workers.new }
 {
+    let Ok(moves) = workers.register().regions().moves_to(bounds) else {
+        return;
+    };
     workers.hand_on(rt);
-    stop_sides(rt, workers, bounds);
-    join_sides(rt, workers, replies, gate, bounds);
+    workers.stop_sides(rt, moves.as_slice());
+    for bound_move in moves.as_slice() {
+        join(
+            rt,
+            workers,
+            replies,
+            gate,
+            bound_move.bound.saturating_sub(1),
+        );
+        join(rt, workers, replies, gate, bound_move.bound);
+    }
 }
 
 impl<G: Gate + 'static> Engine<G> {
@@ -389,7 +364,8 @@ impl<G: Gate + 'static> Engine<G> {
     }
 
     /// Moves the bounds between parts, as `Register::recut_to`: the parts on both sides of each bound that moves come
-    /// home first, the others go on. It may wait.
+    /// home first, and all other workers keep working. Before that, the jobs that are held for any part are handed on,
+    /// which waits for room where a queue is full. It may wait.
     pub fn recut_to<R: Threads + Wait>(&mut self, rt: &R, bounds: &[u64]) -> Result<u8, Refusal>
         ensures took { TookNext (Cut bounds.now result) self.old self.new }
         ensures pending { length self.new.replies ≡ length self.old.replies }

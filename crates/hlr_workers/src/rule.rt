@@ -44,13 +44,6 @@ impl Outcome<Message, Log> for Got {
     ghost then = { λ v x w. (w ≡ log v.pushes v.pops v.sent (v.got ++ x ∷ [])) × IsWellSent (v.got ++ x ∷ []) };
 }
 
-/// What was sent is what was received and then what waits.
-pub struct Total;
-
-impl Lesson<Message, Log> for Total {
-    ghost fact = { λ v items. v.sent ≡ v.got ++ items };
-}
-
 /// A message was popped, or none waits: what was sent is what was received then.
 pub struct Rest;
 

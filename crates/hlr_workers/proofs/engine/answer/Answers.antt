@@ -15,7 +15,7 @@ send-requires-clause-room g c κs within =
 pub returns-in-Refused-clause-answered : goal.returns-in-Refused-clause-answered
 returns-in-Refused-clause-answered g c =
     told_after _ _ c.requires.kept c.args.event (reply.Refused c.in-Refused.why)
-    (subst (λ (h : OwnersState). IsRightNow c.args.event h (reply.Refused c.in-Refused.why)) c.register.ensures.value c.in-Refused.ensures)
+    (subst (λ (h : OwnersState). IsRightNow c.args.event h (reply.Refused c.in-Refused.why)) c.register.ensures.value c.in-Refused.ensures.0)
 
 pub returns-in_ok-send-in-To-clause-answered : goal.returns-in_ok-send-in-To-clause-answered
 returns-in_ok-send-in-To-clause-answered g c =
