@@ -303,7 +303,7 @@ public:
     code recut(const bounds &wanted, std::uint64_t &moved) noexcept { return code{hlr_recut(&handle_, &wanted, &moved)}; }
 
     /* Parts that are out. */
-    code lend(std::uint64_t number, part &owner) noexcept { return code{hlr_lend(&handle_, number, owner.handle())}; }
+    code lend(std::uint64_t number, part &lent) noexcept { return code{hlr_lend(&handle_, number, lent.handle())}; }
     code back(std::uint64_t number) noexcept { return code{hlr_back(&handle_, number)}; }
 
 private:

@@ -4,7 +4,7 @@ pub use Rattle.std.proofs.Crossing.{Arc-send, Box-send, Vec-send, crosses, frees
 pub use Rattle.std.proofs.Math.Seq.{take-suc}
 pub use Rattle.std.proofs.alloc.Calls.{Goes-blank, handle_tells}
 pub use Rattle.std.proofs.lemmas.Bool.{cases_eq, cases_lt}
-pub use Rattle.std.proofs.lemmas.List.{get_or-drop, get_or-map, get_or-set_other, get_or-set_same, get_or-take, get_or_default, length-drop, length-map, length-set, length-take-le, map-append}
+pub use Rattle.std.proofs.lemmas.List.{get_or-drop, get_or-map, get_or-set_other, get_or-set_same, get_or-take, get_or_default, length-drop, length-map, length-set, length-take-le, map-append, map-id}
 pub use Rattle.std.proofs.raw_atomic.Walks.{leaves, proved_at}
 pub use Rattle.std.specs.Box.Ownership.{box_owns}
 pub use Rattle.std.specs.List.{All}
@@ -12,17 +12,19 @@ pub use Rattle.std.specs.Prelude.{None, Option, Result, Some, pos, slice_index, 
 pub use Rattle.std.specs.declared.alloc.Global.{Global}
 pub use Rattle.arrayvec.specs.ArrayVec.{ArrayVec}
 pub use Rattle.c_handle.proofs.PartsSteps.{Parts, allocator, pair, pair_fits, parts_in, parts_out}
-pub use Rattle.hlr_core.specs.Home.{AreHomesAfter}
-pub use Rattle.hlr_core.specs.Inside.Asked.{IsAskedAlone}
+pub use Rattle.hlr_core.proofs.HomeLemmas.{home_to_all}
+pub use Rattle.hlr_core.specs.Home.{AreHomesAfter, IsHomeTo}
+pub use Rattle.hlr_core.specs.Edits.{IsAskedAlone}
 pub use Rattle.hlr_core.specs.Rows.{AreFound, access_reply, numbers_reply, subscriber_reply}
 pub use Rattle.hlr_core.specs.Session.{IsJobDone}
 pub use Rattle.hlr_core.specs.Step.{reply_of}
 pub use Rattle.hlr_core.specs.declared.event.Event.{Event}
 pub use Rattle.hlr_core.specs.declared.event.Event.TheVariants.{AddAccess, AddFacility, AddSubscriber, DeleteForwarding, Give, InsertForwarding, SetNumber, UpdateLocation}
 pub use Rattle.hlr_core.specs.declared.event.Reply.{Reply}
-pub use Rattle.hlr_lent.proofs.CrossingLemmas.{message_send, owner_send}
+pub use Rattle.hlr_lent.proofs.CrossingLemmas.{message_send, lent_part_send}
 pub use Rattle.hlr_owners.proofs.PartLemmas.{count_parts}
-pub use Rattle.hlr_owners.specs.Owners.{AreOwners, IsPartHome, OwnersState, homes_in}
+pub use Rattle.hlr_lent.specs.Away.{IsAway}
+pub use Rattle.hlr_owners.specs.Owners.{AllHome, AreOwners, IsPartHome, OwnersState, homes_in}
 pub use Rattle.hlr_owners.specs.PartOwnerState.{PartOwnerState}
 pub use Rattle.holding.proofs.CrossingLemmas.{holding_send, piece_send}
 pub use Rattle.holding.specs.Held.{HoldingState, IsHolding}

@@ -1,6 +1,7 @@
 pub mod AnswerLemmas
 pub mod Common
 pub mod CrossingLemmas
+mod FillLemmas
 pub mod FoundLemmas
 pub mod KeptPartSteps
 pub mod KeptSteps

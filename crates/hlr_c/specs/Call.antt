@@ -2,11 +2,9 @@
 use Rattle.std.specs.Prelude.{◌≡◌, ◌⊎◌, List, ℕ, Option, Some, None, Result, Ok, Err}
 use Rattle.tatp_rows.specs.Refusal.{code_of}
 use Rattle.tatp_rows.specs.declared.refusal.Refusal.{Refusal}
-use Rattle.hlr_owners.specs.Recut.{IsHomeToCut, IsRecut}
-use Rattle.hlr_owners.specs.Owners.{AllHome, OwnersState, store_in}
-use Rattle.hlr_core.specs.WhileOut.{IsRecutWhileOut, IsStepWhileOut}
-use Rattle.hlr_core.specs.Home.{AreHomesAfter, HaveSameHomes}
-use Rattle.hlr_core.specs.Step.{IsStep}
+use Rattle.hlr_owners.specs.Recut.{IsHomeToCut}
+use Rattle.hlr_owners.specs.Owners.{AllHome, OwnersState}
+use Rattle.hlr_core.specs.WhileOut.{IsRegisterRecut, IsRegisterStep}
 use Rattle.hlr_core.specs.declared.event.Event.{Event}
 use Rattle.hlr_core.specs.declared.event.Reply.{Reply}
 use Rattle.hlr_core.specs.declared.event.Reply.TheVariants as reply
@@ -20,13 +18,6 @@ IsCall closed Does None answer after = (answer ≡ closed) × (after ≡ None)
 IsCall closed Does (Some kept) answer None = ⊥
 IsCall closed Does (Some kept) answer (Some next) = Does kept answer next
 
--- a right step of a register: of the store that it is seen as, and whatever jobs have done to the parts that are out,
--- which stay out
-pub record IsRegisterStep (event : Event) (before : OwnersState) (said : Reply) (after : OwnersState) : Type 0 where
-  pub step : IsStep event (store_in before) said (store_in after)
-  pub homes : AreHomesAfter event said before after
-  pub while_out : IsStepWhileOut event before said after
-
 -- a reply to what is asked for: a right step of the event; or the refusal of a field, and nothing changes
 abbrev pub IsReply : Result Event Refusal → OwnersState → Reply → OwnersState → Type 0
 IsReply (Ok event) before said after = IsRegisterStep event before said after
@@ -37,23 +28,18 @@ abbrev pub IsWaiting : Result Event Refusal → OwnersState → Type 0
 IsWaiting (Ok event) register = IsAway event register
 IsWaiting (Err why) register = ⊥
 
--- an answer that tells such a reply; or that it waits, and nothing changes
+-- an answer that tells such a reply, just where it doesn't wait; or that it waits, and nothing changes
 abbrev pub IsAnswer : {X : Type 0} → Result Event Refusal → (Reply → X) → X → OwnersState → X → OwnersState → Type 0
 IsAnswer asked told away before answer after =
     ((answer ≡ away) × IsWaiting asked before × (after ≡ before))
-    ⊎ ((said : Reply) × IsReply asked before said after × (answer ≡ told said))
+    ⊎ (¬ (IsWaiting asked before) × (said : Reply) × IsReply asked before said after × (answer ≡ told said))
 
 -- the code of an event of which a part is out: that of a refusal that is known without it, or AWAY
 abbrev pub IsAwayCode : Event → OwnersState → ℕ → Type 0
 IsAwayCode event register code =
     ((code ≡ AWAY) × IsAway event register)
-    ⊎ ((why : Refusal) × IsRegisterStep event register (reply.Refused why) register × (code ≡ code_of why))
-
--- a right re-cut of a register, in the same way
-pub record IsRegisterRecut (bounds : List ℕ) (before : OwnersState) (done : Result ℕ Refusal) (after : OwnersState) : Type 0 where
-  pub recut : IsRecut bounds (store_in before) done (store_in after)
-  pub homes : HaveSameHomes before after
-  pub while_out : IsRecutWhileOut bounds before done after
+    ⊎ (¬ (IsAway event register) × (why : Refusal)
+    × IsRegisterStep event register (reply.Refused why) register × (code ≡ code_of why))
 
 -- a re-cut to bounds, or the refusal of what they were handed in as
 abbrev pub IsRecutReply : Result (List ℕ) Refusal → OwnersState → Result ℕ Refusal → OwnersState → Type 0
@@ -65,11 +51,12 @@ abbrev pub IsCutWaiting : Result (List ℕ) Refusal → OwnersState → Type 0
 IsCutWaiting (Ok bounds) register = ¬ (IsHomeToCut bounds register)
 IsCutWaiting (Err why) register = ⊥
 
--- an answer that tells what a re-cut did; or that it waits, and nothing changes
+-- an answer that tells what a re-cut did, just where it doesn't wait; or that it waits, and nothing changes
 abbrev pub IsRecutAnswer : {X : Type 0} → Result (List ℕ) Refusal → (Result ℕ Refusal → X) → X → OwnersState → X → OwnersState → Type 0
 IsRecutAnswer asked told away before answer after =
     ((answer ≡ away) × IsCutWaiting asked before × (after ≡ before))
-    ⊎ ((done : Result ℕ Refusal) × IsRecutReply asked before done after × (answer ≡ told done))
+    ⊎ (¬ (IsCutWaiting asked before) × (done : Result ℕ Refusal)
+    × IsRecutReply asked before done after × (answer ≡ told done))
 
 -- what is done with all parts at home; where one is out the answer says so, and nothing changes
 abbrev pub IsAtHome : {X : Type 0} → X → (OwnersState → X → OwnersState → Type 0) → OwnersState → X → OwnersState → Type 0

@@ -25,11 +25,12 @@ pub record IsReadWhileOut {R X : Type 0} (read : OwnersState → Result R Refusa
   pub while_out : (holdings : List HoldingState) → AreLater before.owners (with_outs before.owners holdings)
       → answer ≡ told (read (register_with before holdings))
 
--- the same of rows of a subscriber; or, where the fields are in range, that the part is out that has the subscriber
+-- the same of rows of a subscriber; or, just where the fields are in range and the part is out that has the subscriber,
+-- that it is
 abbrev pub IsReadAt : {R X : Type 0} → ℕ → Bool → (OwnersState → Result R Refusal) → (Result R Refusal → X) → X → OwnersState → X → OwnersState → Type 0
 IsReadAt s_id fits read told away before answer after =
     ((answer ≡ away) × (fits ≡ true) × ¬ (IsHomeFor s_id before) × (after ≡ before))
-    ⊎ IsReadWhileOut read told before answer after
+    ⊎ ((fits ≡ true → IsHomeFor s_id before) × IsReadWhileOut read told before answer after)
 
 -- the code, and what was read; after a refusal that stays as it was
 abbrev pub value_told : {R : Type 0} → R → Result R Refusal → ℕ × R

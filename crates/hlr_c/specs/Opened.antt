@@ -1,5 +1,5 @@
 -- Opening and closing, and the parts that come and go between handles.
-use Rattle.std.specs.Prelude.{◌≡◌, ◌⊎◌, ◌≤◌, ℕ, length, Option, Some, None}
+use Rattle.std.specs.Prelude.{◌≡◌, ◌⊎◌, ◌≤◌, ℕ, length, Option, Some, None, ⊤}
 use Rattle.tatp_rows.specs.Refusal.{code_of}
 use Rattle.tatp_rows.specs.declared.refusal.Refusal.TheVariants.{Field, Memory, NoPart}
 use Rattle.part_table.specs.Regions.{parts_of}
@@ -7,6 +7,8 @@ use Rattle.holding.specs.Held.{HoldingState}
 use Rattle.hlr_owners.specs.Owners.{AllHome, IsLent, IsPartHome, OwnersState, store_in}
 use Rattle.hlr_owners.specs.Store.{HasOpening, opening}
 use Rattle.hlr_lent.specs.Jobs.{IsBack}
+use Rattle.hlr_lent.specs.Sent.{holding_sent}
+use Rattle.hlr_lent.specs.declared.lent_part.Sent.{Sent}
 use Rattle.hlr_c.specs.declared.codes.TheConstants.{AWAY, DONE, NOT_OPEN, STILL_OPEN}
 
 -- a handle that is open stays as it is, and the answer says so; else it has an empty register, or stays closed:
@@ -27,19 +29,30 @@ IsClosing (Some kept) code after = (code ≡ DONE) × (after ≡ None)
 abbrev pub IsNoPart : ℕ → OwnersState → Type 0
 IsNoPart part register = length (parts_of register.regions) ≤ part
 
--- why a part isn't lent: there is none, it is out, or memory is wanted
+-- there is such a part, and it is at home
+abbrev pub IsThere : ℕ → OwnersState → Type 0
+IsThere part register = ¬ (IsNoPart part register) × IsPartHome part register
+
+-- why a part isn't lent: there is none, it is out, or it is at home and memory is wanted
 abbrev pub IsKept : ℕ → OwnersState → ℕ → Type 0
 IsKept part register code =
     ((code ≡ code_of NoPart) × IsNoPart part register)
-    ⊎ (((code ≡ AWAY) × ¬ (IsPartHome part register)) ⊎ ((code ≡ code_of Memory) × IsPartHome part register))
+    ⊎ (((code ≡ AWAY) × ¬ (IsPartHome part register)) ⊎ ((code ≡ code_of Memory) × IsThere part register))
 
 -- a part goes out of an open handle into a closed one; or neither changes, and the answer says why
 abbrev pub IsLending : ℕ → Option OwnersState × Option HoldingState → ℕ → Option OwnersState × Option HoldingState → Type 0
-IsLending part (None, owner) code after = (code ≡ NOT_OPEN) × (after ≡ (None, owner))
+IsLending part (None, lent) code after = (code ≡ NOT_OPEN) × (after ≡ (None, lent))
 IsLending part (Some register, Some other) code after = (code ≡ STILL_OPEN) × (after ≡ (Some register, Some other))
-IsLending part (Some register, None) code (None, owner) = ⊥
+IsLending part (Some register, None) code (None, lent) = ⊥
 IsLending part (Some register, None) code (Some next, None) = (next ≡ register) × IsKept part register code
 IsLending part (Some register, None) code (Some next, Some lent) = (code ≡ DONE) × IsLent part register lent next
+
+-- the part of a handle went home as it was, if there was one
+abbrev pub IsSent : Option HoldingState → Option Sent → Type 0
+IsSent None None = ⊤
+IsSent None (Some left) = ⊥
+IsSent (Some kept) None = ⊥
+IsSent (Some kept) (Some left) = holding_sent left ≡ Some kept
 
 -- a part is at home: it was, or it was sent home; or it isn't, or there is none, and nothing changes
 abbrev pub IsComing : ℕ → OwnersState → ℕ → OwnersState → Type 0
@@ -47,4 +60,4 @@ IsComing part before code after =
     ((code ≡ DONE) × IsBack part before after)
     ⊎ ((after ≡ before)
     × (((code ≡ code_of NoPart) × IsNoPart part before)
-    ⊎ (((code ≡ DONE) × IsPartHome part before) ⊎ ((code ≡ AWAY) × ¬ (IsPartHome part before)))))
+    ⊎ (((code ≡ DONE) × IsThere part before) ⊎ ((code ≡ AWAY) × ¬ (IsPartHome part before)))))

@@ -1,6 +1,6 @@
 -- What the reports tell C. They change nothing.
 use Rattle.std.specs.Int.{int_max, int_min}
-use Rattle.std.specs.Prelude.{◌≡◌, ℕ, ◌<◌, List, length, map, take, ℤ, pos, negsuc, slice_index_or}
+use Rattle.std.specs.Prelude.{◌≡◌, ℕ, ◌<◌, ◌-◌, ◌++◌, List, length, map, replicate, ℤ, pos, negsuc, slice_index_or}
 use Rattle.tatp_actions.specs.Cell.{cell}
 use Rattle.tatp_actions.specs.declared.cells.TheConstants.{CELLS}
 use Rattle.part_table.specs.Proposal.{proposal}
@@ -13,6 +13,7 @@ use Rattle.hlr_owners.specs.Store.{parts_in, published, unpublished}
 use Rattle.hlr_core.specs.Weights.{published_weights}
 use Rattle.hlr_c.specs.declared.codes.TheConstants.{DONE}
 use Rattle.hlr_c.specs.declared.rows.HlrBounds.{HlrBounds}
+use Rattle.hlr_c.specs.declared.rows.HlrRegion.{HlrRegion}
 use Rattle.hlr_c.specs.declared.rows.HlrRegions.{HlrRegions}
 use Rattle.hlr_c.specs.Rows.{region_for_c}
 
@@ -32,19 +33,25 @@ pub record AreViews (register : OwnersState) (views : List ℤ × List ℤ) : Ty
 abbrev pub AreCounts : OwnersState → List ℕ → Type 0
 AreCounts register counts = (c : ℕ) → c < CELLS → slice_index_or counts c 0 ≡ cell register.width c (book_in register.owners)
 
--- so many of the first regions as there are
+-- a place behind the last region, with 0 in all fields
+abbrev pub no_region : HlrRegion
+no_region = record { lo = 0; hi = 0; is_piece = 0; number = 0 }
+
+-- the regions, and 0 in all fields of the places behind them, of which there are 32 in all
 abbrev pub AreListed : OwnersState → HlrRegions → Type 0
 AreListed register list =
-    (list.count ≡ length register.regions) × (take list.count list.regions ≡ map region_for_c register.regions)
+    (list.count ≡ length register.regions)
+    × (list.regions ≡ map region_for_c register.regions ++ replicate (32 - list.count) no_region)
 
 -- the bounds that are proposed
 abbrev pub proposal_for : OwnersState → List ℕ
 proposal_for register = proposal (published_weights (store_in register)) (parts_in (store_in register)) register.width
 
--- so many of the first bounds as are proposed
+-- the bounds that are proposed, and 0 in the places behind them, of which there are 15 in all
 abbrev pub AreProposed : OwnersState → HlrBounds → Type 0
 AreProposed register bounds =
-    (bounds.count ≡ length (proposal_for register)) × (take bounds.count bounds.bounds ≡ proposal_for register)
+    (bounds.count ≡ length (proposal_for register))
+    × (bounds.bounds ≡ proposal_for register ++ replicate (15 - bounds.count) 0)
 
 -- the integer of 64 bits that is nearest
 abbrev pub nearest : ℤ → ℤ

@@ -1,11 +1,11 @@
 //! The address of a part that is out, with no type, as its handle keeps it.
 ghost use Rattle.std.specs.Prelude.{◌≡◌, ◌≢◌, Option, None, Some};
 ghost use Rattle.holding.specs.Held.{HoldingState};
-ghost use Rattle.hlr_lent.specs.contracts.owner.Owner.{the_row};
+ghost use Rattle.hlr_lent.specs.contracts.lent_part.LentPart.{the_row};
 ghost use Rattle.hlr_c.specs.Held.{held};
 
 use c_handle::BoxParts;
-use hlr_lent::Owner;
+use hlr_lent::LentPart;
 use std::alloc::Global;
 use std::marker::Model;
 use std::ptr;
@@ -45,7 +45,7 @@ impl KeptPart {
     }
 
     /// Takes the type from the address of a part.
-    pub(crate) fn seal(parts: BoxParts<Owner, Global>) -> KeptPart
+    pub(crate) fn seal(parts: BoxParts<LentPart, Global>) -> KeptPart
         ensures { result.part ≡ Some parts.value }
     {
         let BoxParts { address, alloc: _ } = parts;
@@ -55,13 +55,13 @@ impl KeptPart {
     }
 
     /// Gives the address of a part its type again.
-    pub(crate) fn unseal(self, alloc: Global) -> BoxParts<Owner, Global>
+    pub(crate) fn unseal(self, alloc: Global) -> BoxParts<LentPart, Global>
         requires { self.part ≢ None }
         ensures { self.part ≡ Some result.value }
     {
         let KeptPart { address } = self;
         BoxParts {
-            address: address as *mut Owner,
+            address: address as *mut LentPart,
             alloc,
         }
     }

@@ -2,19 +2,19 @@
 ghost use Rattle.std.specs.Prelude.{◌≡◌, IfErr, IfOk};
 ghost use Rattle.hlr_owners.specs.Owners.{IsLent};
 ghost use Rattle.hlr_c.specs.Call.{IsCall};
-ghost use Rattle.hlr_c.specs.Opened.{IsClosing, IsComing, IsKept, IsLending};
+ghost use Rattle.hlr_c.specs.Opened.{IsClosing, IsComing, IsKept, IsLending, IsSent};
 ghost use Rattle.hlr_c.specs.declared.codes.TheConstants.{NOT_OPEN};
 
 use crate::codes::{AWAY, DONE, NOT_OPEN, STILL_OPEN};
 use crate::handle::{Hlr, with_register};
 use crate::part::HlrPart;
 use hlr_core::Refusal;
-use hlr_lent::{Lender, Owner};
+use hlr_lent::{Lender, LentPart, Sent};
 use std::alloc::Global;
 
 /// Lends a part, or gives the code why it isn't lent.
-fn lend(alloc: Global, register: &mut Lender, part: u64) -> Result<Box<Owner>, u8>
-    ensures lent { IfOk result (λ owner. IsLent part register.old owner.value register.new) }
+fn lend(alloc: Global, register: &mut Lender, part: u64) -> Result<Box<LentPart>, u8>
+    ensures lent { IfOk result (λ lent. IsLent part register.old lent.value register.new) }
     ensures kept { IfErr result (λ code. (register.new ≡ register.old) × IsKept part register.old code) }
 {
     if part >= u64::from(register.register().regions().parts()) {
@@ -24,7 +24,7 @@ fn lend(alloc: Global, register: &mut Lender, part: u64) -> Result<Box<Owner>, u
         return Err(AWAY);
     }
     match register.lend(alloc, part as u8) {
-        Ok(owner) => Ok(owner),
+        Ok(lent) => Ok(lent),
         Err(why) => Err(why.code()),
     }
 }
@@ -44,21 +44,21 @@ fn back(register: &mut Lender, part: u64) -> u8
 /// Lends a part to a closed handle, for whatever thread. `NOT_OPEN`, `STILL_OPEN` where that handle has a part,
 /// `NoPart`, `AWAY` where the part is out, `Memory`: each changes nothing.
 #[unsafe(no_mangle)]
-pub extern "C" fn hlr_lend(alloc: Global, handle: &mut Hlr, part: u64, owner: &mut HlrPart) -> u8
-    ensures { IsLending part (handle.old.kept.register, owner.old.kept.part) result (handle.new.kept.register, owner.new.kept.part) }
+pub extern "C" fn hlr_lend(alloc: Global, handle: &mut Hlr, part: u64, lent: &mut HlrPart) -> u8
+    ensures { IsLending part (handle.old.kept.register, lent.old.kept.part) result (handle.new.kept.register, lent.new.kept.part) }
 {
     let Some(mut register) = handle.take(alloc) else {
         return NOT_OPEN;
     };
-    if owner.is_open() {
+    if lent.is_open() {
         handle.put(register);
         return STILL_OPEN;
     }
-    let lent = lend(alloc, &mut register, part);
+    let out = lend(alloc, &mut register, part);
     handle.put(register);
-    match lent {
+    match out {
         Ok(out) => {
-            owner.put(out);
+            lent.put(out);
             DONE
         }
         Err(code) => code,
@@ -74,16 +74,22 @@ pub extern "C" fn hlr_back(alloc: Global, handle: &mut Hlr, part: u64) -> u8
     with_register!(handle, alloc, |register| { back(&mut register, part) })
 }
 
+/// Sends the part of a handle home as it is, if it has one, and closes the handle.
+fn home(alloc: Global, part: &mut HlrPart) -> Option<Sent>
+    ensures closed { part.new.kept.part ≡ None }
+    ensures sent { IsSent part.old.kept.part result }
+{
+    let lent = part.take(alloc)?;
+    Some(Box::into_inner(lent).send_home())
+}
+
 /// Sends a part home, from whatever thread has it, and closes its handle. `NOT_OPEN`.
 #[unsafe(no_mangle)]
-pub extern "C" fn hlr_home(alloc: Global, owner: &mut HlrPart) -> u8
-    ensures { IsClosing owner.old.kept.part result owner.new.kept.part }
+pub extern "C" fn hlr_home(alloc: Global, part: &mut HlrPart) -> u8
+    ensures { IsClosing part.old.kept.part result part.new.kept.part }
 {
-    match owner.take(alloc) {
+    match home(alloc, part) {
         None => NOT_OPEN,
-        Some(out) => {
-            Box::into_inner(out).send_home();
-            DONE
-        }
+        Some(_sent) => DONE,
     }
 }

@@ -1,6 +1,7 @@
 //! Lists in the arrays that C hands in.
-ghost use Rattle.std.specs.Prelude.{◌≡◌, ◌≤◌, ◌<◌, ℕ, Ok, Err, IfOk, IfErr, length, map, take};
+ghost use Rattle.std.specs.Prelude.{◌≡◌, ◌≤◌, ◌<◌, ◌-◌, ◌++◌, ℕ, Ok, Err, IfOk, IfErr, length, map, replicate};
 ghost use Rattle.hlr_c.specs.Asked.{bounds_in};
+ghost use Rattle.hlr_c.specs.Reports.{no_region};
 ghost use Rattle.hlr_c.specs.Rows.{region_for_c};
 
 use crate::rows::{HlrBounds, HlrRegion, HlrRegions};
@@ -21,7 +22,7 @@ pub(crate) fn bounds_in(bounds: &HlrBounds) -> Result<&[u64], Refusal>
 pub(crate) fn bounds_for_c(list: &[u64]) -> HlrBounds
     requires { length list.now ≤ 15 }
     ensures count { result.count ≡ length list.now }
-    ensures bounds { take result.count result.bounds ≡ list.now }
+    ensures bounds { result.bounds ≡ list.now ++ replicate (15 - result.count) 0 }
 {
     let mut bounds = [0; 15];
     for at in 0..list.len() {
@@ -53,9 +54,14 @@ pub(crate) fn region_for_c(region: &Region) -> HlrRegion
 pub(crate) fn regions_for_c(list: &[Region]) -> HlrRegions
     requires { length list.now ≤ 32 }
     ensures count { result.count ≡ length list.now }
-    ensures regions { take result.count result.regions ≡ map region_for_c list.now }
+    ensures regions { result.regions ≡ map region_for_c list.now ++ replicate (32 - result.count) no_region }
 {
-    let none = region_for_c(&Region::default());
+    let none = HlrRegion {
+        lo: 0,
+        hi: 0,
+        is_piece: 0,
+        number: 0,
+    };
     let mut regions = [none; 32];
     for at in 0..list.len() {
         regions[at] = region_for_c(&list[at]);

@@ -5,7 +5,7 @@ ghost use Rattle.hlr_c.specs.declared.handle.TheConstants.{OPEN};
 use crate::handle::OPEN;
 use crate::kept_part::KeptPart;
 use c_handle::BoxParts;
-use hlr_lent::Owner;
+use hlr_lent::LentPart;
 use std::alloc::Global;
 use std::mem;
 
@@ -57,7 +57,7 @@ impl HlrPart {
     }
 
     /// Takes the part out, if the handle is open; it is closed then.
-    pub(crate) fn take(&mut self, alloc: Global) -> Option<Box<Owner>>
+    pub(crate) fn take(&mut self, alloc: Global) -> Option<Box<LentPart>>
         ensures taken { MatchOption result (self.old.kept.part ≡ None) (λ part. self.old.kept.part ≡ Some part.value) }
         ensures closed { self.new.kept.part ≡ None }
     {
@@ -69,7 +69,7 @@ impl HlrPart {
     }
 
     /// Puts a part into a closed handle, which is open then.
-    pub(crate) fn put(&mut self, part: Box<Owner>)
+    pub(crate) fn put(&mut self, part: Box<LentPart>)
         requires { self.old.kept.part ≡ None }
         ensures { self.new.kept.part ≡ Some part.value }
     {

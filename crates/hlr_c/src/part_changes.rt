@@ -3,7 +3,7 @@ ghost use Rattle.std.specs.Prelude.{◌≡◌, true, false, None, Ok, IfOk, OnEr
 ghost use Rattle.tatp_rows.specs.Rows.{is_between};
 ghost use Rattle.tatp_actions.specs.declared.action.Action.TheVariants as action;
 ghost use Rattle.holding.specs.Held.{IsHolding};
-ghost use Rattle.hlr_core.specs.Inside.Asked.{IsAskedAlone, action_asked};
+ghost use Rattle.hlr_core.specs.Edits.{IsAskedAlone, action_asked};
 ghost use Rattle.hlr_core.specs.Step.{given_number, posted_reply};
 ghost use Rattle.hlr_c.specs.Asked.{part_access_asked, part_facility_asked, part_insertion_asked};
 ghost use Rattle.hlr_c.specs.Call.{IsCall};
@@ -16,48 +16,21 @@ use crate::codes::{DONE, ELSEWHERE, code_of_change};
 use crate::part::{HlrPart, with_part};
 use crate::part_reads::has;
 use crate::rows::{HlrAccess, HlrFacility};
-use hlr_core::{Forwarding, Number, Refusal, byte};
-use hlr_lent::Owner;
+use hlr_core::{Forwarding, Number, Refusal, byte, checked};
+use hlr_lent::LentPart;
 use std::alloc::Global;
-use std::num::NonZeroU32;
 use tatp_actions::Edit;
 use tatp_actions::edit::{
-    AddAccess, AddFacility, DeleteForwarding, InsertForwarding, SetActive, UpdateLocation,
-    UpdateSubscriber,
+    AddAccess, AddFacility, DeleteForwarding, InsertForwarding, UpdateLocation,
 };
 use tatp_rows::{LAST_SUBSCRIBER, in_range};
-
-fn subscriber_update(
-    s_id: u64,
-    sf_type: u64,
-    bit_1: u64,
-    data_a: u64,
-) -> Result<UpdateSubscriber, Refusal>
-    ensures { IsAskedAlone (action.UpdateSubscriber s_id sf_type bit_1 data_a) (action_asked ⟦<UpdateSubscriber as Edit>⟧.action result) }
-{
-    Ok(UpdateSubscriber {
-        s_id: in_range(s_id, LAST_SUBSCRIBER)?,
-        sf_type: byte(sf_type)?,
-        bit_1: byte(bit_1)?,
-        data_a: byte(data_a)?,
-    })
-}
-
-/// A location. 0, and what is above 4,294,967,295, is out of its range.
-fn location(value: u64) -> Result<NonZeroU32, Refusal>
-    ensures ok { IfOk result (λ location. (location.value ≡ value) × (is_between 1 4294967295 value ≡ true)) }
-    ensures err { OnErr result ((is_between 1 4294967295 value ≡ false) × (result ≡ Err Refusal.Field)) }
-{
-    let small = u32::try_from(value).map_err(|_| Refusal::Field)?;
-    NonZeroU32::new(small).ok_or(Refusal::Field)
-}
 
 fn location_update(s_id: u64, vlr_location: u64) -> Result<UpdateLocation, Refusal>
     ensures { IsAskedAlone (action.UpdateLocation s_id vlr_location) (action_asked ⟦<UpdateLocation as Edit>⟧.action result) }
 {
     Ok(UpdateLocation {
         s_id: in_range(s_id, LAST_SUBSCRIBER)?,
-        vlr_location: location(vlr_location)?,
+        vlr_location: checked::location(vlr_location)?,
     })
 }
 
@@ -84,16 +57,6 @@ fn deletion(s_id: u64, sf_type: u64, start_time: u64) -> Result<DeleteForwarding
     })
 }
 
-fn activation(s_id: u64, sf_type: u64, is_active: u64) -> Result<SetActive, Refusal>
-    ensures { IsAskedAlone (action.SetActive s_id sf_type is_active) (action_asked ⟦<SetActive as Edit>⟧.action result) }
-{
-    Ok(SetActive {
-        s_id: in_range(s_id, LAST_SUBSCRIBER)?,
-        sf_type: byte(sf_type)?,
-        is_active: byte(is_active)?,
-    })
-}
-
 /// The code of a change of a subscriber who isn't the part's.
 #[inline(never)]
 fn code_elsewhere<E: Edit>(edit: E) -> u8
@@ -107,7 +70,7 @@ fn code_elsewhere<E: Edit>(edit: E) -> u8
 }
 
 /// Does what asks for a change that gives no number.
-fn edit<E: Edit>(part: &mut Owner, asked: Result<E, Refusal>) -> u8
+fn edit<E: Edit>(part: &mut LentPart, asked: Result<E, Refusal>) -> u8
     requires { IfOk asked (λ edit. given_number (E.action edit) ≡ None) }
     ensures edit { IsPartEdit (action_asked E.action asked) part.old result part.new }
     ensures rules { IsHolding part.old }
@@ -123,20 +86,23 @@ fn edit<E: Edit>(part: &mut Owner, asked: Result<E, Refusal>) -> u8
     code_of_change(part.edit(edit))
 }
 
-fn update_subscriber(part: &mut Owner, s_id: u64, sf_type: u64, bit_1: u64, data_a: u64) -> u8
+fn update_subscriber(part: &mut LentPart, s_id: u64, sf_type: u64, bit_1: u64, data_a: u64) -> u8
     ensures { IsPartEdit (Ok (action.UpdateSubscriber s_id sf_type bit_1 data_a)) part.old result part.new }
 {
-    edit(part, subscriber_update(s_id, sf_type, bit_1, data_a))
+    edit(
+        part,
+        checked::update_subscriber(s_id, sf_type, bit_1, data_a),
+    )
 }
 
-fn update_location(part: &mut Owner, s_id: u64, vlr_location: u64) -> u8
+fn update_location(part: &mut LentPart, s_id: u64, vlr_location: u64) -> u8
     ensures { IsPartEdit (Ok (action.UpdateLocation s_id vlr_location)) part.old result part.new }
 {
     edit(part, location_update(s_id, vlr_location))
 }
 
 fn insert_forwarding(
-    part: &mut Owner,
+    part: &mut LentPart,
     s_id: u64,
     sf_type: u64,
     start_time: u64,
@@ -154,19 +120,19 @@ fn insert_forwarding(
     }
 }
 
-fn delete_forwarding(part: &mut Owner, s_id: u64, sf_type: u64, start_time: u64) -> u8
+fn delete_forwarding(part: &mut LentPart, s_id: u64, sf_type: u64, start_time: u64) -> u8
     ensures { IsPartEdit (Ok (action.DeleteForwarding s_id sf_type start_time)) part.old result part.new }
 {
     edit(part, deletion(s_id, sf_type, start_time))
 }
 
-fn set_active(part: &mut Owner, s_id: u64, sf_type: u64, is_active: u64) -> u8
+fn set_active(part: &mut LentPart, s_id: u64, sf_type: u64, is_active: u64) -> u8
     ensures { IsPartEdit (Ok (action.SetActive s_id sf_type is_active)) part.old result part.new }
 {
-    edit(part, activation(s_id, sf_type, is_active))
+    edit(part, checked::set_active(s_id, sf_type, is_active))
 }
 
-fn add_access(part: &mut Owner, row: &HlrAccess) -> u8
+fn add_access(part: &mut LentPart, row: &HlrAccess) -> u8
     ensures { IsPartEdit (part_access_asked row.now) part.old result part.new }
 {
     match access_of(row) {
@@ -175,7 +141,7 @@ fn add_access(part: &mut Owner, row: &HlrAccess) -> u8
     }
 }
 
-fn add_facility(part: &mut Owner, row: &HlrFacility) -> u8
+fn add_facility(part: &mut LentPart, row: &HlrFacility) -> u8
     ensures { IsPartEdit (part_facility_asked row.now) part.old result part.new }
 {
     match facility_of(row) {
@@ -184,7 +150,7 @@ fn add_facility(part: &mut Owner, row: &HlrFacility) -> u8
     }
 }
 
-fn post(part: &mut Owner, limit: u64, posted: &mut u64) -> u8
+fn post(part: &mut LentPart, limit: u64, posted: &mut u64) -> u8
     ensures { IsPartPost limit posted.old part.old (result, posted.new) part.new }
 {
     match part.post(limit) {
@@ -202,17 +168,17 @@ fn post(part: &mut Owner, limit: u64, posted: &mut u64) -> u8
 #[unsafe(no_mangle)]
 pub extern "C" fn hlr_part_update_subscriber(
     alloc: Global,
-    owner: &mut HlrPart,
+    part: &mut HlrPart,
     s_id: u64,
     sf_type: u64,
     bit_1: u64,
     data_a: u64,
 ) -> u8
     ensures { IsCall NOT_OPEN (IsPartEdit (Ok (action.UpdateSubscriber s_id sf_type bit_1 data_a)))
-        owner.old.kept.part result owner.new.kept.part }
+        part.old.kept.part result part.new.kept.part }
 {
-    with_part!(owner, alloc, |part| {
-        update_subscriber(&mut part, s_id, sf_type, bit_1, data_a)
+    with_part!(part, alloc, |lent| {
+        update_subscriber(&mut lent, s_id, sf_type, bit_1, data_a)
     })
 }
 
@@ -221,15 +187,15 @@ pub extern "C" fn hlr_part_update_subscriber(
 #[unsafe(no_mangle)]
 pub extern "C" fn hlr_part_update_location(
     alloc: Global,
-    owner: &mut HlrPart,
+    part: &mut HlrPart,
     s_id: u64,
     vlr_location: u64,
 ) -> u8
     ensures { IsCall NOT_OPEN (IsPartEdit (Ok (action.UpdateLocation s_id vlr_location)))
-        owner.old.kept.part result owner.new.kept.part }
+        part.old.kept.part result part.new.kept.part }
 {
-    with_part!(owner, alloc, |part| {
-        update_location(&mut part, s_id, vlr_location)
+    with_part!(part, alloc, |lent| {
+        update_location(&mut lent, s_id, vlr_location)
     })
 }
 
@@ -239,7 +205,7 @@ pub extern "C" fn hlr_part_update_location(
 #[unsafe(no_mangle)]
 pub extern "C" fn hlr_part_insert_forwarding(
     alloc: Global,
-    owner: &mut HlrPart,
+    part: &mut HlrPart,
     s_id: u64,
     sf_type: u64,
     start_time: u64,
@@ -247,10 +213,10 @@ pub extern "C" fn hlr_part_insert_forwarding(
     numberx: u64,
 ) -> u8
     ensures { IsCall NOT_OPEN (IsPartEdit (part_insertion_asked s_id sf_type start_time end_time numberx))
-        owner.old.kept.part result owner.new.kept.part }
+        part.old.kept.part result part.new.kept.part }
 {
-    with_part!(owner, alloc, |part| {
-        insert_forwarding(&mut part, s_id, sf_type, start_time, end_time, numberx)
+    with_part!(part, alloc, |lent| {
+        insert_forwarding(&mut lent, s_id, sf_type, start_time, end_time, numberx)
     })
 }
 
@@ -259,16 +225,16 @@ pub extern "C" fn hlr_part_insert_forwarding(
 #[unsafe(no_mangle)]
 pub extern "C" fn hlr_part_delete_forwarding(
     alloc: Global,
-    owner: &mut HlrPart,
+    part: &mut HlrPart,
     s_id: u64,
     sf_type: u64,
     start_time: u64,
 ) -> u8
     ensures { IsCall NOT_OPEN (IsPartEdit (Ok (action.DeleteForwarding s_id sf_type start_time)))
-        owner.old.kept.part result owner.new.kept.part }
+        part.old.kept.part result part.new.kept.part }
 {
-    with_part!(owner, alloc, |part| {
-        delete_forwarding(&mut part, s_id, sf_type, start_time)
+    with_part!(part, alloc, |lent| {
+        delete_forwarding(&mut lent, s_id, sf_type, start_time)
     })
 }
 
@@ -277,37 +243,37 @@ pub extern "C" fn hlr_part_delete_forwarding(
 #[unsafe(no_mangle)]
 pub extern "C" fn hlr_part_set_active(
     alloc: Global,
-    owner: &mut HlrPart,
+    part: &mut HlrPart,
     s_id: u64,
     sf_type: u64,
     is_active: u64,
 ) -> u8
     ensures { IsCall NOT_OPEN (IsPartEdit (Ok (action.SetActive s_id sf_type is_active)))
-        owner.old.kept.part result owner.new.kept.part }
+        part.old.kept.part result part.new.kept.part }
 {
-    with_part!(owner, alloc, |part| {
-        set_active(&mut part, s_id, sf_type, is_active)
+    with_part!(part, alloc, |lent| {
+        set_active(&mut lent, s_id, sf_type, is_active)
     })
 }
 
 /// Adds an Access_Info row to a part that is out. `NOT_OPEN`, `Field` where a field is out of its range, `ELSEWHERE`,
 /// `NoSubscriber`, `Exists`, `Memory`.
 #[unsafe(no_mangle)]
-pub extern "C" fn hlr_part_add_access(alloc: Global, owner: &mut HlrPart, row: &HlrAccess) -> u8
+pub extern "C" fn hlr_part_add_access(alloc: Global, part: &mut HlrPart, row: &HlrAccess) -> u8
     ensures { IsCall NOT_OPEN (IsPartEdit (part_access_asked row.now))
-        owner.old.kept.part result owner.new.kept.part }
+        part.old.kept.part result part.new.kept.part }
 {
-    with_part!(owner, alloc, |part| { add_access(&mut part, row) })
+    with_part!(part, alloc, |lent| { add_access(&mut lent, row) })
 }
 
 /// Adds a Special_Facility row to a part that is out. `NOT_OPEN`, `Field` where a field is out of its range,
 /// `ELSEWHERE`, `NoSubscriber`, `Exists`, `Memory`.
 #[unsafe(no_mangle)]
-pub extern "C" fn hlr_part_add_facility(alloc: Global, owner: &mut HlrPart, row: &HlrFacility) -> u8
+pub extern "C" fn hlr_part_add_facility(alloc: Global, part: &mut HlrPart, row: &HlrFacility) -> u8
     ensures { IsCall NOT_OPEN (IsPartEdit (part_facility_asked row.now))
-        owner.old.kept.part result owner.new.kept.part }
+        part.old.kept.part result part.new.kept.part }
 {
-    with_part!(owner, alloc, |part| { add_facility(&mut part, row) })
+    with_part!(part, alloc, |lent| { add_facility(&mut lent, row) })
 }
 
 /// Posts the first `limit` cells of a part that is out that aren't posted, in ascending order, and tells how many were.
@@ -315,12 +281,12 @@ pub extern "C" fn hlr_part_add_facility(alloc: Global, owner: &mut HlrPart, row:
 #[unsafe(no_mangle)]
 pub extern "C" fn hlr_part_post(
     alloc: Global,
-    owner: &mut HlrPart,
+    part: &mut HlrPart,
     limit: u64,
     posted: &mut u64,
 ) -> u8
     ensures { IsCall (NOT_OPEN, posted.old) (IsPartPost limit posted.old)
-        owner.old.kept.part (result, posted.new) owner.new.kept.part }
+        part.old.kept.part (result, posted.new) part.new.kept.part }
 {
-    with_part!(owner, alloc, |part| { post(&mut part, limit, posted) })
+    with_part!(part, alloc, |lent| { post(&mut lent, limit, posted) })
 }

@@ -13,11 +13,11 @@ use crate::part::{HlrPart, with_part};
 use crate::part_reads::{has, read_access, read_destinations, read_subscriber};
 use crate::rows::{HlrAccess, HlrAccessAsked, HlrDestinationAsked, HlrNumbers, HlrSubscriber};
 use hlr_core::{Access, ArrayVec, Number, Subscriber};
-use hlr_lent::Owner;
+use hlr_lent::LentPart;
 use std::alloc::Global;
 
 /// Puts s_ids into an empty list, and tells whether each is one of a part.
-fn put_own(part: &Owner, s_ids: &[u64], own: &mut ArrayVec<u32, 16>) -> bool
+fn put_own(part: &LentPart, s_ids: &[u64], own: &mut ArrayVec<u32, 16>) -> bool
     requires few { length s_ids.now ≤ 16 }
     requires empty { own.old.items ≡ [] }
     ensures same { IsTrue result → own.new.items ≡ s_ids.now }
@@ -35,7 +35,7 @@ fn put_own(part: &Owner, s_ids: &[u64], own: &mut ArrayVec<u32, 16>) -> bool
 
 /// Puts the s_ids and types of accesses into an empty list, and tells whether each is in range and of a part.
 fn put_own_accesses(
-    part: &Owner,
+    part: &LentPart,
     asked: &[HlrAccessAsked],
     own: &mut ArrayVec<(u32, u8), 16>,
 ) -> bool
@@ -56,7 +56,7 @@ fn put_own_accesses(
 
 /// Puts the fields of calls into an empty list, and tells whether each is in range and of a subscriber of a part.
 fn put_own_calls(
-    part: &Owner,
+    part: &LentPart,
     asked: &[HlrDestinationAsked],
     own: &mut ArrayVec<(u32, u8, u8, u8), 16>,
 ) -> bool
@@ -80,14 +80,18 @@ fn put_own_calls(
     true
 }
 
-impl Question<Owner, Option<Subscriber>, HlrSubscriber> for u64 {
+impl Question<LentPart, Option<Subscriber>, HlrSubscriber> for u64 {
     ghost is_read = { IsPartSubscriberRead };
 
-    fn ask(&self, of: &Owner, row: &mut HlrSubscriber) -> u8 {
+    fn ask(&self, of: &LentPart, row: &mut HlrSubscriber) -> u8 {
         read_subscriber(of, *self, row)
     }
 
-    fn copy_block(of: &Owner, asked: &[u64], found: &mut ArrayVec<Option<Subscriber>, 16>) -> bool {
+    fn copy_block(
+        of: &LentPart,
+        asked: &[u64],
+        found: &mut ArrayVec<Option<Subscriber>, 16>,
+    ) -> bool {
         let mut own = ArrayVec::new();
         if !put_own(of, asked, &mut own) {
             return false;
@@ -97,15 +101,15 @@ impl Question<Owner, Option<Subscriber>, HlrSubscriber> for u64 {
     }
 }
 
-impl Question<Owner, Option<Access>, HlrAccess> for HlrAccessAsked {
+impl Question<LentPart, Option<Access>, HlrAccess> for HlrAccessAsked {
     ghost is_read = { IsPartAccessRead };
 
-    fn ask(&self, of: &Owner, row: &mut HlrAccess) -> u8 {
+    fn ask(&self, of: &LentPart, row: &mut HlrAccess) -> u8 {
         read_access(of, self.s_id, self.ai_type, row)
     }
 
     fn copy_block(
-        of: &Owner,
+        of: &LentPart,
         asked: &[HlrAccessAsked],
         found: &mut ArrayVec<Option<Access>, 16>,
     ) -> bool {
@@ -118,10 +122,10 @@ impl Question<Owner, Option<Access>, HlrAccess> for HlrAccessAsked {
     }
 }
 
-impl Question<Owner, ArrayVec<Number, 3>, HlrNumbers> for HlrDestinationAsked {
+impl Question<LentPart, ArrayVec<Number, 3>, HlrNumbers> for HlrDestinationAsked {
     ghost is_read = { IsPartDestinationRead };
 
-    fn ask(&self, of: &Owner, row: &mut HlrNumbers) -> u8 {
+    fn ask(&self, of: &LentPart, row: &mut HlrNumbers) -> u8 {
         let HlrDestinationAsked {
             s_id,
             sf_type,
@@ -132,7 +136,7 @@ impl Question<Owner, ArrayVec<Number, 3>, HlrNumbers> for HlrDestinationAsked {
     }
 
     fn copy_block(
-        of: &Owner,
+        of: &LentPart,
         asked: &[HlrDestinationAsked],
         found: &mut ArrayVec<ArrayVec<Number, 3>, 16>,
     ) -> bool {
@@ -150,16 +154,16 @@ impl Question<Owner, ArrayVec<Number, 3>, HlrNumbers> for HlrDestinationAsked {
 #[unsafe(no_mangle)]
 pub extern "C" fn hlr_part_subscriber_data_many(
     alloc: Global,
-    owner: &mut HlrPart,
+    part: &mut HlrPart,
     s_ids: &[u64],
     rows: &mut [HlrSubscriber],
     codes: &mut [u8],
 ) -> u8
     ensures { IsCall (NOT_OPEN, (rows.old, codes.old)) (IsManyRead IsPartSubscriberRead s_ids.now (rows.old, codes.old))
-        owner.old.kept.part (result, (rows.new, codes.new)) owner.new.kept.part }
+        part.old.kept.part (result, (rows.new, codes.new)) part.new.kept.part }
 {
-    with_part!(owner, alloc, |part| {
-        ask_many(&*part, s_ids, &mut ArrayVec::new(), rows, codes)
+    with_part!(part, alloc, |lent| {
+        ask_many(&*lent, s_ids, &mut ArrayVec::new(), rows, codes)
     })
 }
 
@@ -167,16 +171,16 @@ pub extern "C" fn hlr_part_subscriber_data_many(
 #[unsafe(no_mangle)]
 pub extern "C" fn hlr_part_access_data_many(
     alloc: Global,
-    owner: &mut HlrPart,
+    part: &mut HlrPart,
     asked: &[HlrAccessAsked],
     rows: &mut [HlrAccess],
     codes: &mut [u8],
 ) -> u8
     ensures { IsCall (NOT_OPEN, (rows.old, codes.old)) (IsManyRead IsPartAccessRead asked.now (rows.old, codes.old))
-        owner.old.kept.part (result, (rows.new, codes.new)) owner.new.kept.part }
+        part.old.kept.part (result, (rows.new, codes.new)) part.new.kept.part }
 {
-    with_part!(owner, alloc, |part| {
-        ask_many(&*part, asked, &mut ArrayVec::new(), rows, codes)
+    with_part!(part, alloc, |lent| {
+        ask_many(&*lent, asked, &mut ArrayVec::new(), rows, codes)
     })
 }
 
@@ -184,15 +188,15 @@ pub extern "C" fn hlr_part_access_data_many(
 #[unsafe(no_mangle)]
 pub extern "C" fn hlr_part_new_destination_many(
     alloc: Global,
-    owner: &mut HlrPart,
+    part: &mut HlrPart,
     asked: &[HlrDestinationAsked],
     numbers: &mut [HlrNumbers],
     codes: &mut [u8],
 ) -> u8
     ensures { IsCall (NOT_OPEN, (numbers.old, codes.old)) (IsManyRead IsPartDestinationRead asked.now (numbers.old, codes.old))
-        owner.old.kept.part (result, (numbers.new, codes.new)) owner.new.kept.part }
+        part.old.kept.part (result, (numbers.new, codes.new)) part.new.kept.part }
 {
-    with_part!(owner, alloc, |part| {
-        ask_many(&*part, asked, &mut ArrayVec::new(), numbers, codes)
+    with_part!(part, alloc, |lent| {
+        ask_many(&*lent, asked, &mut ArrayVec::new(), numbers, codes)
     })
 }

@@ -12,17 +12,17 @@ use crate::part::{HlrPart, with_part};
 use crate::reads::{write_access_found, write_numbers, write_subscriber};
 use crate::rows::{HlrAccess, HlrNumbers, HlrSubscriber};
 use hlr_core::Refusal;
-use hlr_lent::Owner;
+use hlr_lent::LentPart;
 use std::alloc::Global;
 
 /// Whether a subscriber lies in a part.
-pub(crate) fn has(part: &Owner, s_id: u64) -> bool
+pub(crate) fn has(part: &LentPart, s_id: u64) -> bool
     ensures { result ≡ has s_id part.now }
 {
     u64::from(part.lo()) <= s_id && s_id < u64::from(part.hi())
 }
 
-pub(crate) fn read_subscriber(part: &Owner, s_id: u64, row: &mut HlrSubscriber) -> u8
+pub(crate) fn read_subscriber(part: &LentPart, s_id: u64, row: &mut HlrSubscriber) -> u8
     ensures { IsPartRead (action.SubscriberData s_id) (subscriber_told row.old) (ELSEWHERE, row.old) part.now (result, row.new) part.now }
 {
     if !is_subscriber(s_id) {
@@ -35,7 +35,7 @@ pub(crate) fn read_subscriber(part: &Owner, s_id: u64, row: &mut HlrSubscriber) 
     write_subscriber(&found, row)
 }
 
-pub(crate) fn read_access(part: &Owner, s_id: u64, ai_type: u64, row: &mut HlrAccess) -> u8
+pub(crate) fn read_access(part: &LentPart, s_id: u64, ai_type: u64, row: &mut HlrAccess) -> u8
     ensures { IsPartRead (action.AccessData s_id ai_type) (access_told s_id ai_type row.old) (ELSEWHERE, row.old) part.now (result, row.new) part.now }
 {
     if !is_typed(s_id, ai_type) {
@@ -49,7 +49,7 @@ pub(crate) fn read_access(part: &Owner, s_id: u64, ai_type: u64, row: &mut HlrAc
 }
 
 pub(crate) fn read_destinations(
-    part: &Owner,
+    part: &LentPart,
     s_id: u64,
     sf_type: u64,
     start_time: u64,
@@ -73,16 +73,16 @@ pub(crate) fn read_destinations(
 #[unsafe(no_mangle)]
 pub extern "C" fn hlr_part_range(
     alloc: Global,
-    owner: &mut HlrPart,
+    part: &mut HlrPart,
     lo: &mut u64,
     hi: &mut u64,
 ) -> u8
     ensures { IsCall (NOT_OPEN, (lo.old, hi.old)) IsPartRange
-        owner.old.kept.part (result, (lo.new, hi.new)) owner.new.kept.part }
+        part.old.kept.part (result, (lo.new, hi.new)) part.new.kept.part }
 {
-    with_part!(owner, alloc, |part| {
-        *lo = u64::from(part.lo());
-        *hi = u64::from(part.hi());
+    with_part!(part, alloc, |lent| {
+        *lo = u64::from(lent.lo());
+        *hi = u64::from(lent.hi());
         DONE
     })
 }
@@ -92,14 +92,14 @@ pub extern "C" fn hlr_part_range(
 #[unsafe(no_mangle)]
 pub extern "C" fn hlr_part_subscriber_data(
     alloc: Global,
-    owner: &mut HlrPart,
+    part: &mut HlrPart,
     s_id: u64,
     row: &mut HlrSubscriber,
 ) -> u8
     ensures { IsCall (NOT_OPEN, row.old) (IsPartRead (action.SubscriberData s_id) (subscriber_told row.old) (ELSEWHERE, row.old))
-        owner.old.kept.part (result, row.new) owner.new.kept.part }
+        part.old.kept.part (result, row.new) part.new.kept.part }
 {
-    with_part!(owner, alloc, |part| { read_subscriber(&part, s_id, row) })
+    with_part!(part, alloc, |lent| { read_subscriber(&lent, s_id, row) })
 }
 
 /// Does GET_ACCESS_DATA (TATP, section 3.3) of a part that is out. `NOT_OPEN`, `Field` where s_id isn't in
@@ -107,16 +107,16 @@ pub extern "C" fn hlr_part_subscriber_data(
 #[unsafe(no_mangle)]
 pub extern "C" fn hlr_part_access_data(
     alloc: Global,
-    owner: &mut HlrPart,
+    part: &mut HlrPart,
     s_id: u64,
     ai_type: u64,
     row: &mut HlrAccess,
 ) -> u8
     ensures { IsCall (NOT_OPEN, row.old) (IsPartRead (action.AccessData s_id ai_type) (access_told s_id ai_type row.old) (ELSEWHERE, row.old))
-        owner.old.kept.part (result, row.new) owner.new.kept.part }
+        part.old.kept.part (result, row.new) part.new.kept.part }
 {
-    with_part!(owner, alloc, |part| {
-        read_access(&part, s_id, ai_type, row)
+    with_part!(part, alloc, |lent| {
+        read_access(&lent, s_id, ai_type, row)
     })
 }
 
@@ -126,7 +126,7 @@ pub extern "C" fn hlr_part_access_data(
 #[unsafe(no_mangle)]
 pub extern "C" fn hlr_part_new_destination(
     alloc: Global,
-    owner: &mut HlrPart,
+    part: &mut HlrPart,
     s_id: u64,
     sf_type: u64,
     start_time: u64,
@@ -134,9 +134,9 @@ pub extern "C" fn hlr_part_new_destination(
     numbers: &mut HlrNumbers,
 ) -> u8
     ensures { IsCall (NOT_OPEN, numbers.old) (IsPartRead (action.NewDestination s_id sf_type start_time end_time) (numbers_told numbers.old) (ELSEWHERE, numbers.old))
-        owner.old.kept.part (result, numbers.new) owner.new.kept.part }
+        part.old.kept.part (result, numbers.new) part.new.kept.part }
 {
-    with_part!(owner, alloc, |part| {
-        read_destinations(&part, s_id, sf_type, start_time, end_time, numbers)
+    with_part!(part, alloc, |lent| {
+        read_destinations(&lent, s_id, sf_type, start_time, end_time, numbers)
     })
 }

@@ -276,7 +276,8 @@ fn answer_away(
     called(alloc, handle, asked)
 }
 
-/// Whether a drawn event is answered as by a register that lends none, and `AWAY` isn't told needlessly.
+/// Whether a drawn event is answered as by a register that lends none, and `AWAY` is answered just where a part on
+/// which the event works is out and no refusal is known without it.
 fn answers_alike(
     alloc: Global,
     register: &mut Register,
@@ -288,10 +289,11 @@ fn answers_alike(
     let (first, last) = needed(register, asked, s_id);
     let want = wanted(register, asked);
     let answer = called(alloc, handle, asked);
-    if answer != Answer::Code(AWAY) || is_known(&want) || !lent.is_away(first, last) {
+    if is_known(&want) || !lent.is_away(first, last) {
         return answer == want;
     }
-    answer_away(alloc, handle, lent, asked, (first, last), s_id) == want
+    answer == Answer::Code(AWAY)
+        && answer_away(alloc, handle, lent, asked, (first, last), s_id) == want
 }
 
 /// Whether the cells are told as of a register that lends none; `AWAY` where a part is away.

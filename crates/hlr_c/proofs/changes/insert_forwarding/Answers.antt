@@ -5,7 +5,7 @@ use Rattle.hlr_c.proofs.changes.insert_forwarding.Goals as goal
 
 pub returns-in-Err : goal.returns-in-Err
 returns-in-Err c =
-    rw (sym c.try_new.ensures ∙ c.in-Err.is) (inr (reply.Refused c.in-Err.why, (refl, refl), c.code.ensures))
+    rw (sym c.try_new.ensures ∙ c.in-Err.is) (inr ((λ waits. waits), reply.Refused c.in-Err.why, (refl, refl), c.code.ensures))
 
 pub returns-in-Err-try_new : goal.returns-in-Err-try_new
 returns-in-Err-try_new c =

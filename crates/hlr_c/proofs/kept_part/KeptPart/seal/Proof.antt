@@ -19,7 +19,7 @@ use types.Run.{and_then, enter, fld, no_more, of_opd, returns, stop}
 use Rattle.std.proofs.alloc.Global.TheLaws.{the_row_laws as global_laws}
 use Rattle.std.specs.contracts.alloc.Global.{the_row as Global}
 use Rattle.std.specs.contracts.impls.GlobalAllocator.TheImpl.{ghosts as of_global}
-use Rattle.hlr_lent.specs.contracts.owner.Owner.{the_row as Owner}
+use Rattle.hlr_lent.specs.contracts.lent_part.LentPart.{the_row as LentPart}
 use Rattle.hlr_c.proofs.KeptPartSteps.{kept_in}
 use Rattle.hlr_c.proofs.KeptSteps.{word}
 use Rattle.hlr_c.proofs.kept_part.KeptPart.seal.Code as code
@@ -30,7 +30,7 @@ pub seal_spec : {M : Type 1} → statement M
 seal_spec 𝓤 𝓛 𝓜 𝓡 wired =
     let 𝓣 = tables 𝓤 𝓛.H 𝓜 𝓡 𝓡.env in
     let c = f.clauses 𝓛 𝓜.mem 𝓡.returns in
-    let Own : RattleType = Parts Owner Global global_laws of_global in
+    let Own : RattleType = Parts LentPart Global global_laws of_global in
     let stays : Stays f.ended.signature.params f.ended.kept = (stay_dropped (plain (λ _. Own)) yes, tt) in
     proved_at 𝓛 f.ended stays c 𝓜 𝓡 (Goes-blank 𝓛 0 (plain (λ _. Own)) yes (λ κs x words. tt), tt)
     f.Key.name code.function (code.unfolded 𝓤 𝓛.H 𝓜 𝓡 wired) (λ z are.
@@ -40,8 +40,8 @@ seal_spec 𝓤 𝓛 𝓜 𝓡 wired =
     let is_kept = fact_i 𝓤 (Some parts.value ≡ Some parts.value) (emp 𝓤) refl in
     qed 𝓛 ((‵ ftrue ⊛ ‵ (owns (types_at f.ended.signature.params z.0.0) z.0.3 z.0.4)) ∷ raw ((c z.0.0 z.0.3).requires z.1) ∷ []) ∵
     split ! $ move ! (1 ∷ []) $ fsplit ! $
-    parts_out Owner Global global_laws of_global ! parts z.0.4.0 (λ b o h at words fits.
-    let w : Val = pair (vptr b o) h in let typed = pair_fits Owner Global global_laws of_global b o h fits in
+    parts_out LentPart Global global_laws of_global ! parts z.0.4.0 (λ b o h at words fits.
+    let w : Val = pair (vptr b o) h in let typed = pair_fits LentPart Global global_laws of_global b o h fits in
     suffices ! (Run (w ∷ [])) (subst (λ (us : List Val). ent 𝓤 (Run (w ∷ [])) (Run us)) (sym (λ i. words i ++ [])) (id⊢ 𝓤 (Run (w ∷ [])))) $
     enter ! 𝓣.C 𝓣.Λ code.function (w ∷ []) Post $ alloc_all ! (λ l. pass_all ! refl (typed, tt) $
     -- the address, the address as it is stored, and the struct

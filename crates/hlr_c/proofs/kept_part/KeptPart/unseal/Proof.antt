@@ -19,7 +19,7 @@ use types.Run.{and_then, enter, fld, no_more, of_opd, returns, stop}
 use Rattle.std.proofs.alloc.Global.TheLaws.{the_row_laws as global_laws}
 use Rattle.std.specs.contracts.alloc.Global.{the_row as Global}
 use Rattle.std.specs.contracts.impls.GlobalAllocator.TheImpl.{ghosts as of_global}
-use Rattle.hlr_lent.specs.contracts.owner.Owner.{the_row as Owner}
+use Rattle.hlr_lent.specs.contracts.lent_part.LentPart.{the_row as LentPart}
 use Rattle.hlr_c.proofs.KeptPartSteps.{kept_out}
 use Rattle.hlr_c.proofs.KeptSteps.{found, word}
 use Rattle.hlr_c.proofs.kept_part.KeptPart.unseal.Code as code
@@ -45,9 +45,9 @@ unseal_spec 𝓤 𝓛 𝓜 𝓡 wired =
     let is_kept = fact_i 𝓤 (kept.part ≡ Some x) (emp 𝓤) is in
     split ! $ move ! (1 ∷ []) $ fsplit ! $ kept_out ! kept x is z.0.4.0 (λ heap b o words.
     move ! (1 ∷ []) $ fsplit ! $
-    handle_tells (allocator Owner Global global_laws of_global) ! a z.0.4.1.0 (λ h is_alloc fits. move ! (2 ∷ 0 ∷ []) $
+    handle_tells (allocator LentPart Global global_laws of_global) ! a z.0.4.1.0 (λ h is_alloc fits. move ! (2 ∷ 0 ∷ []) $
     -- [the block; the allocator]
-    let made : Val = pair (vptr b o) h in let typed = pair_fits Owner Global global_laws of_global b o h fits in
+    let made : Val = pair (vptr b o) h in let typed = pair_fits LentPart Global global_laws of_global b o h fits in
     let passed : List Val = word (vptr b o) ∷ h ∷ [] in
     suffices ! (Run passed) (subst (λ (us : List Val). ent 𝓤 (Run passed) (Run us)) (sym (λ i. words i ++ (is_alloc i ++ []))) (id⊢ 𝓤 (Run passed))) $
     enter ! 𝓣.C 𝓣.Λ code.function passed Post $ alloc_all ! (λ l. pass_all ! refl ((tt, (tt, tt)), (fits, tt)) $
@@ -55,7 +55,7 @@ unseal_spec 𝓤 𝓛 𝓜 𝓡 wired =
     sets ! (of_opd ! (get_in ! (fld ! refl (stop !)) (sub ! 0 refl (whole !)))) refl (tt, tt) $
     sets ! (of_opd ! (get ! refl)) refl (tt, tt) $
     sets ! (agg ! (and_then ! (get ! refl) (and_then ! (get ! refl) (no_more !)))) refl typed $
-    parts_in Owner Global global_laws of_global ! b o h a x $
+    parts_in LentPart Global global_laws of_global ! b o h a x $
     use0 𝓛 (raw (fact 𝓤 (kept.part ≡ Some x))) is_kept $ nothing ! $ nothing ! $ fjoin ! $ nothing ! $ fjoin ! $
     returns ! (look_at ! 0 refl) $ free_all ! refl $ keep ! (4 ∷ 0 ∷ 2 ∷ 1 ∷ []) $
     by ! (leaves 𝓛 f.ended stays c z made (record { address = block_ptr b o; alloc = a; value = x }) (tt, (tt, tt)) (tt, (tt, tt))))))))

@@ -1,6 +1,6 @@
 use Rattle.hlr_c.proofs.Common.{◌∙◌, ℕ, ap, map, access_at, access_reply, IsOwnAccess, IsPartAccessRead, access_told, HlrAccessAsked}
 use Rattle.hlr_c.proofs.OwnLemmas.{access_is, map_of_map, told_of_own}
-use Rattle.hlr_c.proofs.part_many.HlrAccessAskedQuestionOwnerOptionAccessHlrAccess.copy_block.Goals as goal
+use Rattle.hlr_c.proofs.part_many.HlrAccessAskedQuestionLentPartOptionAccessHlrAccess.copy_block.Goals as goal
 
 pub returns : goal.returns
 returns c = λ done.

@@ -1,6 +1,6 @@
 use Rattle.hlr_c.proofs.Common.{◌∙◌, ℕ, ap, map, ArrayVec, destinations, numbers_reply, IsOwnCall, IsPartDestinationRead, numbers_told, HlrDestinationAsked}
 use Rattle.hlr_c.proofs.OwnLemmas.{map_of_map, numbers_are, told_of_own}
-use Rattle.hlr_c.proofs.part_many.HlrDestinationAskedQuestionOwnerArrayVecNumber3HlrNumbers.copy_block.Goals as goal
+use Rattle.hlr_c.proofs.part_many.HlrDestinationAskedQuestionLentPartArrayVecNumber3HlrNumbers.copy_block.Goals as goal
 
 pub returns : goal.returns
 returns c = λ done.

@@ -1,6 +1,6 @@
 use Rattle.hlr_c.proofs.Common.{◌∙◌, ap, map, subscriber_at, subscriber_reply, IsOwn, IsPartSubscriberRead, subscriber_told}
 use Rattle.hlr_c.proofs.OwnLemmas.{subscriber_is, told_of_own}
-use Rattle.hlr_c.proofs.part_many.U64QuestionOwnerOptionSubscriberHlrSubscriber.copy_block.Goals as goal
+use Rattle.hlr_c.proofs.part_many.U64QuestionLentPartOptionSubscriberHlrSubscriber.copy_block.Goals as goal
 
 pub returns : goal.returns
 returns c = λ done.
