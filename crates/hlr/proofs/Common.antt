@@ -82,9 +82,9 @@ pub use Rattle.hlr.specs.Orders.{answer_in, order_of, orders_of, recut_answer_in
 pub use Rattle.hlr.specs.Outgoing.{Adds, AddsFront, AddsWhole, Outgoing, outgoing}
 pub use Rattle.hlr.specs.Records.{bounds_of, command_named, command_of, field, word_named}
 pub use Rattle.hlr.specs.Reports.{is_counted, is_standing, rows_line, scan_text, standing_line, views_text}
-pub use Rattle.hlr.specs.Run.{AnsweredRecords, Ran, RanFront, WritesWhole}
+pub use Rattle.hlr.specs.Run.{AnsweredRecords, AsksEvent, HasNextEvent, IsStop, Ran, RanFront, RanUntil, StoppedFront, WritesWhole}
 pub use Rattle.hlr.specs.Sink.{AppendsFront, Begins}
-pub use Rattle.hlr.specs.Source.{AreRead, AsksEvent, HasNext, HasNextEvent, RanUntil, ReadsOne, StoppedFront, StopsBehind, Unread}
+pub use Rattle.hlr.specs.Source.{AreRead, GaveEvent, ReadsOne, Seen, StopsBehind, Unread}
 pub use Rattle.hlr.specs.Text.{CommandText, RecordText, RecutText}
 pub use Rattle.hlr.specs.Written.{HasRoom, Written}
 pub use Rattle.hlr.specs.declared.fault.Fault.{Fault}

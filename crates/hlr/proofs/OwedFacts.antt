@@ -1,5 +1,5 @@
 -- How the text of a run with threads grows: events are owed, and their answers are written at a settle.
-use Rattle.hlr.proofs.Common.{◌≡◌, refl, sym, ap, ◌∙◌, subst, ℕ, ◌+◌, ◌≤◌, ◌<◌, List, [], ◌∷◌, ◌++◌, length, Option, Some, Bool, true, false, append_assoc, length-append, inl, inr, arith, ◌⊎◌, map, IfSome, Result, Ok, Err, MatchResult, append-nil, ArrayVec, Refusal, IsRecut, OwnersState, store_in, Store, IsRun, Event, Reply, answers_with, events_in, Asked, Cut, Engaged, IsSettled, Stands, Took, TookNext, recut_unseen, seen_as, stands_unseen, step_unseen, Command, Answers, AreAnswered, AreBrokenOff, AskFor, HasAnswered, HasCome, HasComeToEnd, HasTaken, IsAtRest, IsOwed, IsUnderway, kind_of, replies_text, with_sight, word_of_report, WritesOwed, reply_line, bounds_of, command_named, field, word_named, Adds, Outgoing, AreRead, AsksEvent, HasNextEvent, ReadsOne, StopsBehind, Unread, CommandText, RecordText, RecutText, Fault, Report, Word, Stalled}
+use Rattle.hlr.proofs.Common.{◌≡◌, refl, sym, ap, ◌∙◌, subst, ℕ, ◌+◌, ◌≤◌, ◌<◌, List, [], ◌∷◌, ◌++◌, length, Option, Some, Bool, true, false, append_assoc, length-append, inl, inr, arith, ◌⊎◌, map, IfSome, Result, Ok, Err, MatchResult, append-nil, ArrayVec, Refusal, IsRecut, OwnersState, store_in, Store, IsRun, Event, Reply, answers_with, events_in, Asked, Cut, Engaged, IsSettled, Stands, Took, TookNext, recut_unseen, seen_as, stands_unseen, step_unseen, Command, Answers, AreAnswered, AreBrokenOff, AskFor, HasAnswered, HasCome, HasComeToEnd, HasTaken, IsAtRest, IsOwed, IsUnderway, kind_of, replies_text, with_sight, word_of_report, WritesOwed, reply_line, bounds_of, command_named, field, word_named, Adds, Outgoing, AreRead, AsksEvent, GaveEvent, ReadsOne, Seen, StopsBehind, Unread, CommandText, RecordText, RecutText, Fault, Report, Word, Stalled}
 use Rattle.csv.specs.declared.parser.State.TheVariants as st
 use Rattle.hlr_workers.specs.Standing.{orders_of}
 use Rattle.hlr.specs.Command.{Command as command}
@@ -9,7 +9,7 @@ use Rattle.hlr.specs.declared.fault.Fault.TheVariants as fault
 use Rattle.hlr.specs.declared.records.Kind.TheVariants as kind
 use Rattle.hlr.specs.declared.records.Report.TheVariants as report
 use Rattle.hlr.specs.declared.records.Word.TheVariants as word
-use Rattle.hlr.proofs.RunFacts.{answered_kept, broken_kept, come_to, has_next, if_known, if_some, read_all, read_is_no_write, read_more, read_none, records_more, stopped_at_last, stopped_by_read}
+use Rattle.hlr.proofs.RunFacts.{answered_kept, broken_kept, come_to, if_known, if_some, read_all, read_is_no_write, read_more, read_none, records_more, stopped_at_last, stopped_by_read}
 use Rattle.hlr.proofs.SinkFacts.{adds_both, adds_front_after, adds_none}
 
 -- the events that records ask for, one more
@@ -245,59 +245,64 @@ module _ (a b : Unread) (fields : List (List ℕ)) (found : Bool) (taken : Reads
       come_to (stops bytes) bytes (λ rows. IsUnderway rows start next old new) broken why unless
       (record { rows = so.rows; few = omega arith; state = a.state; left = read.left; are_first = read.reached; holds = (under, stopped bytes read) })) so.read
 
-module _ {T : Type 0} (unread : T → Unread) (fails : T → T → Fault → Type 0) (at now : T) (b : Unread) (fields : List (List ℕ)) (found : Bool)
-    (taken : ReadsOne (unread at) b found fields) (start : Store) (known : Option (List ℕ)) (e : Engaged) (old mid new : Outgoing) (count : ℕ)
-    (so : SoFarOwed start known (unread at) e old mid count) where
-  -- the event of the record was refused, for want of memory or a thread
-  next_event : (bytes : List ℕ) → AreRead bytes (unread at) so.rows → found ≡ true → AsksEvent fields → HasNextEvent bytes so.rows
-  next_event bytes read there asks =
-      (fields, asks, has_next bytes b so.rows fields (read_more bytes (unread at) b so.rows fields read found there taken))
+module _ {T : Type 0} (source : Seen T) (now : T) (a : Unread) (fields : List (List ℕ)) (found : Bool)
+    (taken : ReadsOne a (source.unread now) found fields) (start : Store) (known : Option (List ℕ)) (e : Engaged) (old mid new : Outgoing) (count : ℕ)
+    (so : SoFarOwed start known a e old mid count) where
+  -- one record more was read
+  one_more : (bytes : List ℕ) → AreRead bytes a so.rows → found ≡ true → AreRead bytes (source.unread now) (so.rows ++ fields ∷ [])
+  one_more bytes read there = read_more bytes a (source.unread now) so.rows fields read found there taken
+
+  -- a run stops in front of that record
+  stops_there : (broken : List (List (List ℕ)) → Type 0) (next : Engaged) (why : Fault) (later : Outgoing) → count ≤ 1048576 → (why ≡ fault.Write → ⊥)
+      → IsUnderway so.rows start next old later → ((bytes : List ℕ) → AreRead bytes a so.rows → StopsBehind source true bytes now so.rows why)
+      → IfSome known (λ bytes. HasCome (StopsBehind source true bytes now) bytes (λ rows. IsUnderway rows start next old later) broken (Err why))
+  stops_there broken next why later =
+      stops_at a (source.unread now) fields found taken start known e old mid later count so (λ bytes. StopsBehind source true bytes now) broken next why
 
   -- the record ended the run
   pub owed_fails : (next : Engaged) (stalled : Bool) (why : Fault) → found ≡ true → count < 1048576 → HasTaken so.rows fields start next old new stalled (Err why)
-      → IfSome known (λ bytes. HasCome (StopsBehind unread fails true bytes now) bytes (λ rows. IsUnderway rows start next old new) (λ rows. AreBrokenOff rows start old new stalled) (Err why))
+      → IfSome known (λ bytes. HasCome (StopsBehind source true bytes now) bytes (λ rows. IsUnderway rows start next old new) (λ rows. AreBrokenOff rows start old new stalled) (Err why))
   owed_fails next stalled fault.Memory there below outgoing =
-      stops_at (unread at) b fields found taken start known e old mid new count so (λ bytes. StopsBehind unread fails true bytes now) (λ rows. AreBrokenOff rows start old new stalled) next fault.Memory (omega arith) (λ is. cc) outgoing.0
-      (λ bytes read. inr (refl, next_event bytes read there outgoing.1))
+      stops_there (λ rows. AreBrokenOff rows start old new stalled) next fault.Memory new (omega arith) (λ is. cc) outgoing.0
+      (λ bytes read. inr (refl, (fields, outgoing.1, one_more bytes read there)))
   owed_fails next stalled fault.Thread there below outgoing =
-      stops_at (unread at) b fields found taken start known e old mid new count so (λ bytes. StopsBehind unread fails true bytes now) (λ rows. AreBrokenOff rows start old new stalled) next fault.Thread (omega arith) (λ is. cc) outgoing.0
-      (λ bytes read. (refl, next_event bytes read there outgoing.1))
+      stops_there (λ rows. AreBrokenOff rows start old new stalled) next fault.Thread new (omega arith) (λ is. cc) outgoing.0
+      (λ bytes read. (refl, (fields, outgoing.1, one_more bytes read there)))
   owed_fails next stalled fault.Field there below outgoing = absurd outgoing
   owed_fails next stalled fault.Read there below outgoing = absurd outgoing
   owed_fails next stalled fault.Write there below was =
       let many = so.many in
       if_some known _ _ (λ bytes read.
       elim was [
-        | inl before ↦ record { rows = so.rows; few = omega arith; state = (unread at).state; left = read.left; are_first = read.reached; holds = before }
+        | inl before ↦ record { rows = so.rows; few = omega arith; state = a.state; left = read.left; are_first = read.reached; holds = before }
         | inr itself ↦
-            let more = read_more bytes (unread at) b so.rows fields read found there taken in
-            record { rows = so.rows ++ fields ∷ []; few = rw length-append (omega arith); state = b.state; left = more.left; are_first = more.reached; holds = itself }
+            let more = one_more bytes read there in
+            record { rows = so.rows ++ fields ∷ []; few = rw length-append (omega arith); state = (source.unread now).state; left = more.left; are_first = more.reached; holds = itself }
       ]) so.read
 
   -- the record is one too many
   pub owed_stops_at_last : (broken : List (List (List ℕ)) → Type 0) → found ≡ true → count ≡ 1048576
-      → IfSome known (λ bytes. HasCome (StopsBehind unread fails true bytes now) bytes (λ rows. IsUnderway rows start e old mid) broken (Err fault.Read))
+      → IfSome known (λ bytes. HasCome (StopsBehind source true bytes now) bytes (λ rows. IsUnderway rows start e old mid) broken (Err fault.Read))
   owed_stops_at_last broken there last =
       let many = so.many in
-      stops_at (unread at) b fields found taken start known e old mid mid count so (λ bytes. StopsBehind unread fails true bytes now) broken e fault.Read (omega arith) (λ is. cc) so.underway
-      (λ bytes read.
-      stopped_at_last unread fails true bytes so.rows now fields (omega arith)
-      (has_next bytes b so.rows fields (read_more bytes (unread at) b so.rows fields read found there taken)))
+      stops_there broken e fault.Read mid (omega arith) (λ is. cc) so.underway
+      (λ bytes read. stopped_at_last source true bytes so.rows now fields (omega arith) (one_more bytes read there))
 
 -- the read of a record failed
-pub owed_stops : {T : Type 0} (unread : T → Unread) (fails : T → T → Fault → Type 0) (at now : T) (start : Store) (known : Option (List ℕ)) (e : Engaged) (old new : Outgoing) (count : ℕ)
-    (broken : List (List (List ℕ)) → Type 0) (why : Fault) → (so : SoFarOwed start known (unread at) e old new count) → count ≤ 1048576 → fails at now why → (why ≡ fault.Memory) ⊎ (why ≡ fault.Read)
-    → IfSome known (λ bytes. HasCome (StopsBehind unread fails true bytes now) bytes (λ rows. IsUnderway rows start e old new) broken (Err why))
-owed_stops unread fails at now start known e old new count broken why so within failed either =
+pub owed_stops : {T : Type 0} (source : Seen T) (at now : T) (start : Store) (known : Option (List ℕ)) (e : Engaged) (old new : Outgoing) (count : ℕ)
+    (broken : List (List (List ℕ)) → Type 0) (why : Fault) → (so : SoFarOwed start known (source.unread at) e old new count) → count ≤ 1048576
+    → source.begun now ≡ source.unread at → source.fails at now why → (why ≡ fault.Memory) ⊎ (why ≡ fault.Read)
+    → IfSome known (λ bytes. HasCome (StopsBehind source true bytes now) bytes (λ rows. IsUnderway rows start e old new) broken (Err why))
+owed_stops source at now start known e old new count broken why so within last failed either =
     let many = so.many in
     if_some known _ _ (λ bytes read.
-    come_to (StopsBehind unread fails true bytes now) bytes (λ rows. IsUnderway rows start e old new) broken why (read_is_no_write why either) (record {
+    come_to (StopsBehind source true bytes now) bytes (λ rows. IsUnderway rows start e old new) broken why (read_is_no_write why either) (record {
       rows = so.rows;
       few = omega arith;
-      state = (unread at).state;
+      state = (source.unread at).state;
       left = read.left;
       are_first = read.reached;
-      holds = (so.underway, stopped_by_read unread fails true bytes so.rows now at why read failed either);
+      holds = (so.underway, stopped_by_read source true bytes so.rows now at why read last failed either);
     })) so.read
 
 -- a record that ended a run was no option out of range, and where the sink failed it told so

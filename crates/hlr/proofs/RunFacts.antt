@@ -1,5 +1,5 @@
 -- How the text of a run grows, record by record.
-use Rattle.hlr.proofs.Common.{◌≡◌, refl, sym, ap, ◌∙◌, subst, ℕ, ◌+◌, ◌≤◌, ◌<◌, List, [], ◌∷◌, ◌++◌, length, Option, Some, None, Bool, true, false, append_assoc, length-append, ◌⊎◌, inl, inr, arith, ◌==◌, IfSome, option_map, Result, Ok, Err, is_err, false≢true, nat_tests, append-nil, Appends, Keeps, Read, next_record, AreRecords, NextIs, ReadsNext, default_config, strip_bom, State, reached-more, OwnersState, store_in, Store, command_named, field, word_named, Report, Word, AddsAnswer, Answers, AreAnswered, AreBrokenOff, HasCome, HasComeTo, HasComeToEnd, report_on, with_sight, word_of_report, Adds, AddsFront, AddsWhole, Outgoing, outgoing, WritesWhole, AnsweredRecords, RanFront, Ran, AreRead, HasNext, RanUntil, ReadsOne, StoppedFront, StopsBehind, Unread, CommandText, RecordText, Refusal, Fault, Command, Stalled}
+use Rattle.hlr.proofs.Common.{◌≡◌, refl, sym, ap, ◌∙◌, subst, ℕ, ◌+◌, ◌≤◌, ◌<◌, List, [], ◌∷◌, ◌++◌, length, Option, Some, None, Bool, true, false, append_assoc, length-append, ◌⊎◌, inl, inr, arith, ◌==◌, IfSome, option_map, Result, Ok, Err, is_err, false≢true, nat_tests, append-nil, Appends, Keeps, Read, next_record, AreRecords, NextIs, ReadsNext, default_config, strip_bom, State, reached-more, OwnersState, store_in, Store, command_named, field, word_named, Report, Word, AddsAnswer, Answers, AreAnswered, AreBrokenOff, HasCome, HasComeTo, HasComeToEnd, report_on, with_sight, word_of_report, Adds, AddsFront, AddsWhole, Outgoing, outgoing, WritesWhole, AnsweredRecords, RanFront, Ran, AreRead, IsStop, Seen, RanUntil, ReadsOne, StoppedFront, StopsBehind, Unread, CommandText, RecordText, Refusal, Fault, Command, Stalled}
 use Rattle.csv.specs.Reading.{Reached}
 use Rattle.csv.specs.declared.parser.State.TheVariants as st
 use Rattle.hlr.specs.Records.{command_of}
@@ -86,10 +86,6 @@ module _ (bytes : List ℕ) (a b : Unread) (rows : List (List (List ℕ))) (fiel
   -- there was none, so these are all
   pub read_all : (found : Bool) → found ≡ false → ReadsOne a b found fields → AreRecords default_config st.StartRecord bytes rows
   read_all found none taken = (a.state, read.left, read.reached, none_after b.bytes (rw (none, read.left_is) at taken))
-
--- behind records stands one that was read
-pub has_next : (bytes : List ℕ) (unread : Unread) (rows : List (List (List ℕ))) (fields : List (List ℕ)) → AreRead bytes unread (rows ++ fields ∷ []) → HasNext bytes rows fields
-has_next bytes unread rows fields read = (unread.state, read.left, read.reached)
 
 -- so many records of the bytes are read and answered
 pub record SoFar (start : Store) (bytes : List ℕ) (unread : Unread) (register : OwnersState) (old new : Outgoing) (count : ℕ) : Type 0 where
@@ -189,7 +185,7 @@ front_is_whole start bytes old new why answered at left reached grew = record {
 }
 
 -- nothing more is written after a fault, which another may follow
-front_kept : (start : Store) (bytes : List ℕ) (old mid new : Option (List ℕ)) (why other : Fault) (ran : RanFront start bytes old mid why)
+abbrev front_kept : (start : Store) (bytes : List ℕ) (old mid new : Option (List ℕ)) (why other : Fault) (ran : RanFront start bytes old mid why)
     → WritesWhole other ran.written ran.answered.text → Keeps mid new → RanFront start bytes old new other
 front_kept start bytes old mid new why other ran whole kept = record {
   answered = ran.answered;
@@ -231,37 +227,46 @@ stops_so stops broken start bytes unread register old new count why so within un
       holds = (answered_so_far start bytes unread register old new count so, stopped);
     })
 
-module _ {T : Type 0} (unread : T → Unread) (fails : T → T → Fault → Type 0) (threads : Bool) (bytes : List ℕ) (rows : List (List (List ℕ))) (now : T) where
+module _ {T : Type 0} (source : Seen T) (threads : Bool) (bytes : List ℕ) (rows : List (List (List ℕ))) (now : T) where
   -- a read failed
-  pub stopped_by_read : (at : T) (why : Fault) → AreRead bytes (unread at) rows → fails at now why → (why ≡ fault.Memory) ⊎ (why ≡ fault.Read)
-      → StopsBehind unread fails threads bytes now rows why
-  stopped_by_read at fault.Memory read failed either = inl (record { at = at; read = read; failed = failed })
-  stopped_by_read at fault.Read read failed either = inl (record { at = at; read = read; failed = failed })
-  stopped_by_read at fault.Write read failed either = tt
-  stopped_by_read at fault.Field read failed (inl is) = cc
-  stopped_by_read at fault.Field read failed (inr is) = cc
-  stopped_by_read at fault.Thread read failed (inl is) = cc
-  stopped_by_read at fault.Thread read failed (inr is) = cc
+  pub stopped_by_read : (at : T) (why : Fault) → AreRead bytes (source.unread at) rows → source.begun now ≡ source.unread at → source.fails at now why
+      → (why ≡ fault.Memory) ⊎ (why ≡ fault.Read) → StopsBehind source threads bytes now rows why
+  stopped_by_read at fault.Memory read last failed either = inl (record { at = at; read = read; last = last; failed = failed })
+  stopped_by_read at fault.Read read last failed either = inl (record { at = at; read = read; last = last; failed = failed })
+  stopped_by_read at fault.Write read last failed either = tt
+  stopped_by_read at fault.Field read last failed (inl is) = cc
+  stopped_by_read at fault.Field read last failed (inr is) = cc
+  stopped_by_read at fault.Thread read last failed (inl is) = cc
+  stopped_by_read at fault.Thread read last failed (inr is) = cc
 
   -- a run may answer no more
-  pub stopped_at_last : (fields : List (List ℕ)) → length rows ≡ 1048576 → HasNext bytes rows fields → StopsBehind unread fails threads bytes now rows fault.Read
-  stopped_at_last fields many next = inr (many, fields, next)
+  pub stopped_at_last : (fields : List (List ℕ)) → length rows ≡ 1048576 → AreRead bytes (source.unread now) (rows ++ fields ∷ []) → StopsBehind source threads bytes now rows fault.Read
+  stopped_at_last fields many read = inr (many, fields, read)
 
 -- the run stops at a record that is one too many
-pub stops_full : {T : Type 0} (unread : T → Unread) (fails : T → T → Fault → Type 0) (last : T) (broken : List (List (List ℕ)) → Type 0) (start : Store) (bytes : List ℕ) (a b : Unread)
-    (fields : List (List ℕ)) (register : OwnersState) (old new : Outgoing) (count : ℕ) (so : SoFar start bytes a register old new count) (found : Bool) → ReadsOne a b found fields → found ≡ true
-    → count ≡ 1048576 → HasCome (StopsBehind unread fails false bytes last) bytes (λ rows. AreAnswered rows start register old new) broken (Err fault.Read)
-stops_full unread fails last broken start bytes a b fields register old new count so found taken there full =
+pub stops_full : {T : Type 0} (source : Seen T) (last : T) (broken : List (List (List ℕ)) → Type 0) (start : Store) (bytes : List ℕ) (a : Unread)
+    (fields : List (List ℕ)) (register : OwnersState) (old new : Outgoing) (count : ℕ) (so : SoFar start bytes a register old new count) (found : Bool) → ReadsOne a (source.unread last) found fields → found ≡ true
+    → count ≡ 1048576 → HasCome (StopsBehind source false bytes last) bytes (λ rows. AreAnswered rows start register old new) broken (Err fault.Read)
+stops_full source last broken start bytes a fields register old new count so found taken there full =
     let many = so.many in
-    stops_so (StopsBehind unread fails false bytes last) broken start bytes a register old new count fault.Read so (omega arith) (λ is. cc)
-    (stopped_at_last unread fails false bytes so.rows last fields (omega arith) (has_next bytes b so.rows fields (read_more bytes a b so.rows fields so.read found there taken)))
+    stops_so (StopsBehind source false bytes last) broken start bytes a register old new count fault.Read so (omega arith) (λ is. cc)
+    (stopped_at_last source false bytes so.rows last fields (omega arith) (read_more bytes a (source.unread last) so.rows fields so.read found there taken))
 
 -- a run that read nothing and wrote nothing
-pub ran_nothing : (start : Store) (bytes : List ℕ) (old new : Option (List ℕ)) (why : Fault) → Keeps old new → RanFront start bytes old new why
+pub ran_nothing : (start : Store) (bytes : List ℕ) (old new : Option (List ℕ)) (why : Fault) → (why ≡ fault.Thread → ⊥) → Keeps old new → Ran start bytes old new (Err why)
 unfolding RecordsText Reached
-ran_nothing start bytes old new why kept =
-    front_is_whole start bytes old new why (answered_records start [] [] start (omega arith) (refl, refl)) st.StartRecord bytes (refl, refl)
-    (appends_kept old old new [] (appends_none old) kept)
+ran_nothing start bytes old new why unless kept = record {
+  front = front_is_whole start bytes old new why (answered_records start [] [] start (omega arith) (refl, refl)) st.StartRecord bytes (refl, refl)
+      (appends_kept old old new [] (appends_none old) kept);
+  stopped = λ none. no_stop (answered_records start [] [] start (omega arith) (refl, refl)).rows why unless;
+}
+  where
+    no_stop : (rows : List (List (List ℕ))) (why : Fault) → (why ≡ fault.Thread → ⊥) → IsStop bytes rows why
+    no_stop rows fault.Thread unless = absurd (unless refl)
+    no_stop rows fault.Memory unless = tt
+    no_stop rows fault.Field unless = tt
+    no_stop rows fault.Read unless = tt
+    no_stop rows fault.Write unless = tt
 
 -- nothing more is written after a run
 pub ran_kept : (start : Store) (bytes : List ℕ) (old mid new : Option (List ℕ)) (r : Result (Unit {0}) Fault) → Ran start bytes old mid r → Keeps mid new → Ran start bytes old new r
@@ -270,13 +275,18 @@ ran_kept start bytes old mid new (Ok done) ran kept = record {
   are_records = ran.are_records;
   grew = appends_kept old mid new ran.answered.text ran.grew kept;
 }
-ran_kept start bytes old mid new (Err why) ran kept = front_kept start bytes old mid new why why ran ran.whole kept
+ran_kept start bytes old mid new (Err why) ran kept = record {
+  front = front_kept start bytes old mid new why why ran.front ran.front.whole kept;
+  stopped = ran.stopped;
+}
 
 -- the flush after a run failed
-pub ran_unflushed : (start : Store) (bytes : List ℕ) (old mid new : Option (List ℕ)) (r : Result (Unit {0}) Fault) → Ran start bytes old mid r → Keeps mid new → RanFront start bytes old new fault.Write
-ran_unflushed start bytes old mid new (Ok done) ran kept =
-    front_is_whole start bytes old new fault.Write ran.answered ran.are_records.0 ran.are_records.1 ran.are_records.2 (appends_kept old mid new ran.answered.text ran.grew kept)
-ran_unflushed start bytes old mid new (Err why) ran kept = front_kept start bytes old mid new why fault.Write ran tt kept
+pub ran_unflushed : (start : Store) (bytes : List ℕ) (old mid new : Option (List ℕ)) (r : Result (Unit {0}) Fault) → Ran start bytes old mid r → Keeps mid new → Ran start bytes old new (Err fault.Write)
+ran_unflushed start bytes old mid new (Ok done) ran kept = record {
+  front = front_is_whole start bytes old new fault.Write ran.answered ran.are_records.0 ran.are_records.1 ran.are_records.2 (appends_kept old mid new ran.answered.text ran.grew kept);
+  stopped = λ unless. tt;
+}
+ran_unflushed start bytes old mid new (Err why) ran kept = record { front = front_kept start bytes old mid new why fault.Write ran.front tt kept; stopped = λ unless. tt }
 
 -- what is known of known bytes
 pub if_some : {X : Type 0} (o : Option X) (P Q : X → Type 0) → ((x : X) → P x → Q x) → IfSome o P → IfSome o Q
@@ -293,11 +303,23 @@ pub keeps_same : (o : Option (List ℕ)) → Keeps o o
 keeps_same None = tt
 keeps_same (Some xs) = refl
 
+-- where a source stopped a run is known of the bytes alone
+pub is_stop : {T : Type 0} (source : Seen T) (threads : Bool) (bytes : List ℕ) (now : T) (rows : List (List (List ℕ))) (why : Fault)
+    → StopsBehind source threads bytes now rows why → IsStop bytes rows why
+is_stop source threads bytes now rows fault.Thread stops =
+    let read = stops.1.2 in
+    (stops.1.0, stops.1.1, (source.unread now).state, read.left, read.reached)
+is_stop source threads bytes now rows fault.Memory stops = tt
+is_stop source threads bytes now rows fault.Field stops = tt
+is_stop source threads bytes now rows fault.Read stops = tt
+is_stop source threads bytes now rows fault.Write stops = tt
+
 -- a run over a source is one over its bytes
-pub ran_until : (stops : List (List (List ℕ)) → Fault → Type 0) (start : Store) (bytes : List ℕ) (old new : Option (List ℕ)) (r : Result (Unit {0}) Fault)
-    → RanUntil stops start bytes old new r → Ran start bytes old new r
-ran_until stops start bytes old new (Ok done) ran = ran
-ran_until stops start bytes old new (Err why) ran = ran.front
+ran_until : {T : Type 0} (source : Seen T) (threads : Bool) (now : T) (start : Store) (bytes : List ℕ) (old new : Option (List ℕ)) (r : Result (Unit {0}) Fault)
+    → RanUntil (StopsBehind source threads bytes now) start bytes old new r → Ran start bytes old new r
+ran_until source threads now start bytes old new (Ok done) ran = ran
+ran_until source threads now start bytes old new (Err why) ran =
+    record { front = ran.front; stopped = λ unless. is_stop source threads bytes now ran.front.answered.rows why (ran.stopped unless) }
 
 -- a run that ended with a flush
 pub ran_finished : (start : Store) (bytes : List ℕ) (old mid new : Option (List ℕ)) (done r : Result (Unit {0}) Fault) → Ran start bytes old mid done → Keeps mid new
@@ -306,9 +328,9 @@ ran_finished start bytes old mid new done r ran kept (inl same) = rw same (ran_k
 ran_finished start bytes old mid new done r ran kept (inr failed) = rw failed (ran_unflushed start bytes old mid new done ran kept)
 
 -- a run that was refused before it read anything
-pub ran_refused : (start : Store) (bytes : List ℕ) (old new : Option (List ℕ)) (r : Result (Unit {0}) Fault) → is_err r ≡ true → Keeps old new → Ran start bytes old new r
-ran_refused start bytes old new (Ok done) failed kept = absurd (false≢true failed)
-ran_refused start bytes old new (Err why) failed kept = ran_nothing start bytes old new why kept
+pub ran_refused : (start : Store) (bytes : List ℕ) (old new : Option (List ℕ)) (r : Result (Unit {0}) Fault) → is_err r ≡ true → (r ≡ Err fault.Thread → ⊥) → Keeps old new → Ran start bytes old new r
+ran_refused start bytes old new (Ok done) failed unless kept = absurd (false≢true failed)
+ran_refused start bytes old new (Err why) failed unless kept = ran_nothing start bytes old new why (λ is. unless (ap (λ (f : Fault). Err f) is)) kept
 
 -- a run over a reader's bytes from a store that is another one
 pub ran_from : (known : Option (List ℕ)) (start other : Store) (old new : Option (List ℕ)) (r : Result (Unit {0}) Fault) → start ≡ other
@@ -316,14 +338,14 @@ pub ran_from : (known : Option (List ℕ)) (start other : Store) (old new : Opti
 ran_from known start other old new r same ran = subst (λ (store : Store). IfSome known (λ bytes. Ran store (strip_bom bytes) old new r)) same ran
 
 -- a run over a reader's bytes, without the byte order mark before them, that ended with a flush
-pub ran_flushed : (stops : List ℕ → List (List (List ℕ)) → Fault → Type 0) (known source : Option (List ℕ)) (start : Store) (old mid new : Option (List ℕ)) (done r : Result (Unit {0}) Fault)
-    → source ≡ option_map strip_bom known → IfSome source (λ bytes. RanUntil (stops bytes) start bytes old mid done) → Keeps mid new → (r ≡ done) ⊎ (r ≡ Err fault.Write)
-    → IfSome known (λ bytes. Ran start (strip_bom bytes) old new r)
-ran_flushed stops None source start old mid new done r is ran kept ended = tt
-ran_flushed stops (Some bytes) source start old mid new done r is ran kept ended =
-    let until : RanUntil (stops (strip_bom bytes)) start (strip_bom bytes) old mid done =
-    subst (λ (o : Option (List ℕ)). IfSome o (λ bytes. RanUntil (stops bytes) start bytes old mid done)) is ran in
-    ran_finished start (strip_bom bytes) old mid new done r (ran_until (stops (strip_bom bytes)) start (strip_bom bytes) old mid done until) kept ended
+pub ran_flushed : {T : Type 0} (source : Seen T) (threads : Bool) (now : T) (known given : Option (List ℕ)) (start : Store) (old mid new : Option (List ℕ)) (done r : Result (Unit {0}) Fault)
+    → given ≡ option_map strip_bom known → IfSome given (λ bytes. RanUntil (StopsBehind source threads bytes now) start bytes old mid done) → Keeps mid new
+    → (r ≡ done) ⊎ (r ≡ Err fault.Write) → IfSome known (λ bytes. Ran start (strip_bom bytes) old new r)
+ran_flushed source threads now None given start old mid new done r is ran kept ended = tt
+ran_flushed source threads now (Some bytes) given start old mid new done r is ran kept ended =
+    let until : RanUntil (StopsBehind source threads (strip_bom bytes) now) start (strip_bom bytes) old mid done =
+    subst (λ (o : Option (List ℕ)). IfSome o (λ bytes. RanUntil (StopsBehind source threads bytes now) start bytes old mid done)) is ran in
+    ran_finished start (strip_bom bytes) old mid new done r (ran_until source threads now start (strip_bom bytes) old mid done until) kept ended
 
 -- the answer to a record whose word is known
 module _ (fields : List (List ℕ)) (named : Option Word) (before after : Store) (page grown : List ℕ) (is : named ≡ word_named (field fields 0)) where

@@ -1,6 +1,7 @@
 -- What the calls that write answers promise each other; no clause of `run` or `run_alone` cites this.
-use Rattle.std.specs.Prelude.{◌≡◌, ◌++◌, ◌≤◌, ⊤, ◌⊎◌, length, ℕ, Bool, true, List, [], ◌∷◌, map, MatchResult, Result, Ok, Err, codes, ℤ, pos, slice_index, slice_index_or}
+use Rattle.std.specs.Prelude.{◌≡◌, ◌++◌, ◌≤◌, ⊤, ◌⊎◌, length, ℕ, Bool, true, false, List, [], ◌∷◌, map, MatchResult, Result, Ok, Err, codes, ℤ, pos, slice_index, slice_index_or}
 use Rattle.std.specs.List.{flat_map}
+use Rattle.std.specs.Str.{bytes_eq}
 use Rattle.tatp_rows.specs.declared.refusal.Refusal.{Refusal}
 use Rattle.hlr_core.specs.declared.event.Event.{Event}
 use Rattle.hlr_core.specs.declared.event.Reply.{Reply}
@@ -18,7 +19,7 @@ use Rattle.hlr_owners.specs.Store.{Store, published, unpublished}
 use Rattle.hlr_core.specs.Index.{index_of}
 use Rattle.hlr.specs.Reports.{report_text, cells_where, is_standing, standing_line, is_counted, rows_line, index_text, regions_text, scan_text, views_text}
 use Rattle.hlr.specs.Outgoing.{Adds, AddsFront, AddsWhole, Outgoing}
-use Rattle.hlr.specs.Source.{AsksEvent}
+use Rattle.hlr.specs.Run.{AsksEvent}
 use Rattle.hlr.specs.Text.{proposal_line, CommandText, RecordText, RecordsText}
 use Rattle.hlr.specs.declared.fault.Fault.{Fault}
 use Rattle.hlr.specs.declared.fault.Fault.TheVariants as fault
@@ -85,6 +86,13 @@ report_on report.Scan store = scan_text (λ c. cell store.width c store.book)
 report_on report.Index store = index_text (index_of store.book.subscribers)
 report_on report.Regions store = regions_text store.regions
 report_on report.Propose store = proposal_line store
+
+-- a text is none of the four words that most records have
+pub record IsRarer (text : List ℕ) : Type 0 where
+  pub gsd : bytes_eq text (codes "gsd") ≡ false
+  pub gnd : bytes_eq text (codes "gnd") ≡ false
+  pub gad : bytes_eq text (codes "gad") ≡ false
+  pub ul : bytes_eq text (codes "ul") ≡ false
 
 -- what the records of a word ask for
 abbrev pub kind_of : Word → Kind

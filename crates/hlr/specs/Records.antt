@@ -23,10 +23,14 @@ use Rattle.hlr.specs.declared.records.Word.TheVariants as word
 abbrev pub field : List (List ℕ) → ℕ → List ℕ
 field fields i = unwrap_or (field_at fields i) []
 
--- the word that a text is, where it is none of the four that most records have
-unfoldable pub rarer_word_named : List ℕ → Option Word
-rarer_word_named text =
-    if bytes_eq text (codes "usd") then Some word.Usd
+-- the word that a text is
+unfoldable pub word_named : List ℕ → Option Word
+word_named text =
+    if bytes_eq text (codes "gsd") then Some word.Gsd
+    else if bytes_eq text (codes "gnd") then Some word.Gnd
+    else if bytes_eq text (codes "gad") then Some word.Gad
+    else if bytes_eq text (codes "usd") then Some word.Usd
+    else if bytes_eq text (codes "ul") then Some word.Ul
     else if bytes_eq text (codes "icf") then Some word.Icf
     else if bytes_eq text (codes "dcf") then Some word.Dcf
     else if bytes_eq text (codes "sub") then Some word.Sub
@@ -46,15 +50,6 @@ rarer_word_named text =
     else if bytes_eq text (codes "propose") then Some word.Propose
     else if bytes_eq text (codes "recut") then Some word.Recut
     else None
-
--- the word that a text is
-unfoldable pub word_named : List ℕ → Option Word
-word_named text =
-    if bytes_eq text (codes "gsd") then Some word.Gsd
-    else if bytes_eq text (codes "gnd") then Some word.Gnd
-    else if bytes_eq text (codes "gad") then Some word.Gad
-    else if bytes_eq text (codes "ul") then Some word.Ul
-    else rarer_word_named text
 
 -- gsd,S
 abbrev pub gsd_of : List (List ℕ) → Result Command Refusal

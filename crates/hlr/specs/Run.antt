@@ -1,5 +1,5 @@
 -- What a run answers, and what it writes of that.
-use Rattle.std.specs.Prelude.{◌≡◌, ◌≤◌, ℕ, Bool, true, List, length, Option, Result, Ok, Err, ⊤}
+use Rattle.std.specs.Prelude.{◌≡◌, ◌≢◌, ◌≤◌, ◌++◌, ◌∷◌, [], ℕ, Bool, true, List, length, Option, Result, Ok, Err, ⊤}
 use Rattle.std.specs.Io.KnownBytes.{Appends}
 use Rattle.csv.specs.Reading.{AreRecords, Reached, default_config}
 use Rattle.csv.specs.declared.parser.State.{State}
@@ -7,10 +7,13 @@ use Rattle.csv.specs.declared.parser.State.TheVariants as st
 use Rattle.hlr_owners.specs.Store.{Store}
 use Rattle.hlr_core.specs.Kept.{IsSameAtHome}
 use Rattle.hlr_core.specs.Run.{IsRun}
+use Rattle.hlr_core.specs.declared.event.Event.{Event}
 use Rattle.hlr.specs.declared.run.TheConstants.{RECORDS}
 use Rattle.hlr.specs.declared.fault.Fault.{Fault}
 use Rattle.hlr.specs.declared.fault.Fault.TheVariants as fault
+use Rattle.hlr.specs.Command.{Command as command}
 use Rattle.hlr.specs.Orders.{answers_in, orders_of, TellAnswers}
+use Rattle.hlr.specs.Records.{command_of}
 use Rattle.hlr.specs.Sink.{Begins}
 use Rattle.hlr.specs.Text.{RecordsText}
 
@@ -52,10 +55,37 @@ pub record RanFront (start : Store) (bytes : List ℕ) (old new : Option (List �
   pub whole : WritesWhole why written answered.text
   pub grew : Appends old new written
 
--- a run from a store over these bytes: on Ok all records are answered, after a fault the first ones
+-- the first records of the bytes are answered, and unless the sink failed, a run stopped so behind them
+pub record StoppedFront (stops : List (List (List ℕ)) → Fault → Type 0) (start : Store) (bytes : List ℕ)
+    (old new : Option (List ℕ)) (why : Fault) : Type 0 where
+  pub front : RanFront start bytes old new why
+  pub stopped : why ≢ fault.Write → stops front.answered.rows why
+
+-- a run from a store over these bytes: on Ok all records are answered, after a fault those in front of what stopped it
+abbrev pub RanUntil : (List (List (List ℕ)) → Fault → Type 0) → Store → List ℕ → Option (List ℕ) → Option (List ℕ)
+    → Result (Unit {0}) Fault → Type 0
+RanUntil stops start bytes old new (Ok done) = RanWhole start bytes old new
+RanUntil stops start bytes old new (Err why) = StoppedFront stops start bytes old new why
+
+-- a record of these fields asks for an event
+abbrev pub AsksEvent : List (List ℕ) → Type 0
+AsksEvent fields = (event : Event) × (command_of fields ≡ Ok (command.Ask event))
+
+-- behind these records of the bytes stands one that asks for an event
+abbrev pub HasNextEvent : List ℕ → List (List (List ℕ)) → Type 0
+HasNextEvent bytes rows =
+    (fields : List (List ℕ)) × AsksEvent fields
+    × (state : State) × (left : List ℕ) × Reached default_config st.StartRecord bytes (rows ++ fields ∷ []) state left
+
+-- what is known of where a run over a reader stopped, once the reader is gone: where a thread was refused, the record
+-- behind those that were answered asks for an event
+abbrev pub IsStop : List ℕ → List (List (List ℕ)) → Fault → Type 0
+IsStop bytes rows fault.Thread = HasNextEvent bytes rows
+IsStop bytes rows _ = ⊤
+
+-- a run over a reader of these bytes
 abbrev pub Ran : Store → List ℕ → Option (List ℕ) → Option (List ℕ) → Result (Unit {0}) Fault → Type 0
-Ran start bytes old new (Ok done) = RanWhole start bytes old new
-Ran start bytes old new (Err why) = RanFront start bytes old new why
+Ran start bytes = RanUntil (IsStop bytes) start bytes
 
 -- all that a run wrote is flushed, unless the sink failed or was never used
 abbrev pub IsFlushedAfter : Result (Unit {0}) Fault → Bool → Type 0

@@ -24,6 +24,9 @@ const LINE_ROOM: usize = SHORT_LINE * (CELLS as usize + 1);
 /// How many bytes may be there when a line is begun; where there are more, they are handed on first.
 pub const LINE_LIMIT: usize = 65_536;
 
+// The number that the definition of a line means.
+const _: () = prove!(LINE_LIMIT == 65_536);
+
 /// How many bytes there is room for.
 const LINE_SPACE: usize = LINE_LIMIT + LINE_ROOM;
 

@@ -8,7 +8,8 @@ ghost use Rattle.hlr.specs.Inside.{AddsAnswer, AnswersNext, AreBrokenOff, HasCom
 ghost use Rattle.hlr.specs.Lines.{refused_line};
 ghost use Rattle.hlr.specs.Records.{bounds_of, command_of, field, word_named};
 ghost use Rattle.hlr.specs.Outgoing.{Adds, Outgoing, outgoing};
-ghost use Rattle.hlr.specs.Source.{RanUntil, StopsBehind};
+ghost use Rattle.hlr.specs.Run.{RanUntil};
+ghost use Rattle.hlr.specs.Source.{StopsBehind};
 ghost use Rattle.hlr.specs.Written.{HasRoom};
 ghost use Rattle.hlr.specs.declared.fault.Fault.TheVariants as fault;
 ghost use Rattle.hlr_workers.specs.declared.work.TheConstants.{MOST_PENDING};
@@ -276,10 +277,10 @@ fn take_all<T: Source, H: Threads + Wait + Copy + Send + Sync + 'static, S: Sink
     sink: &mut S,
 ) -> Result<(), Fault>
     requires open { T.is_open source.old }
-    requires start { (T.unread source.old).state ≡ state.StartRecord }
+    requires start { (T.seen.unread source.old).state ≡ state.StartRecord }
     requires rest { IsAtRest engine.old }
-    ensures text { IfSome (T.unread source.old).bytes
-        (λ bytes. HasCome (StopsBehind T.unread T.fails true bytes source.new) bytes
+    ensures text { IfSome (T.seen.unread source.old).bytes
+        (λ bytes. HasCome (StopsBehind T.seen true bytes source.new) bytes
         (λ rows. IsUnderway rows (store_in engine.old.register) engine.new (outgoing line.old.items (S.taken sink.old)) (outgoing line.new.items (S.taken sink.new)))
         (λ rows. AreBrokenOff rows (store_in engine.old.register) (outgoing line.old.items (S.taken sink.old)) (outgoing line.new.items (S.taken sink.new)) (S.has_stalled sink.new)) result) }
     ensures write { result ≡ Err fault.Write → S.has_stalled sink.new ≡ true }
@@ -312,10 +313,10 @@ pub fn answer_all_by<T: Source, H: Threads + Wait + Copy + Send + Sync + 'static
     sink: &mut S,
 ) -> Result<(), Fault>
     requires open { T.is_open source.old }
-    requires start { (T.unread source.old).state ≡ state.StartRecord }
+    requires start { (T.seen.unread source.old).state ≡ state.StartRecord }
     requires rest { IsAtRest engine.old }
-    ensures text { IfSome (T.unread source.old).bytes
-        (λ bytes. RanUntil (StopsBehind T.unread T.fails true bytes source.new) (store_in engine.old.register) bytes (S.taken sink.old) (S.taken sink.new) result) }
+    ensures text { IfSome (T.seen.unread source.old).bytes
+        (λ bytes. RanUntil (StopsBehind T.seen true bytes source.new) (store_in engine.old.register) bytes (S.taken sink.old) (S.taken sink.new) result) }
     ensures write { result ≡ Err fault.Write → S.has_stalled sink.new ≡ true }
     ensures field { result ≢ Err fault.Field }
 {

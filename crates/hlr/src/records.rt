@@ -1,8 +1,8 @@
 //! The words that records begin with, and their fields.
 ghost use Rattle.std.specs.Prelude.{◌≡◌, ◌==◌, None, Some, IfSome, length, if◌then◌else◌, Ok, Err};
 ghost use Rattle.csv.specs.Records.{fields_of};
-ghost use Rattle.hlr.specs.Inside.{kind_of};
-ghost use Rattle.hlr.specs.Records.{field, rarer_word_named, word_named, side_named, bounds_of};
+ghost use Rattle.hlr.specs.Inside.{IsRarer, kind_of};
+ghost use Rattle.hlr.specs.Records.{field, word_named, side_named, bounds_of};
 
 use crate::fields::parse_number;
 use arrayvec::ArrayVec;
@@ -110,9 +110,10 @@ pub fn kind_of(word: Word) -> Kind
 
 /// Finds the word that a text is, in lower case exactly, where it is none of the four that most records have.
 #[inline(always)]
-#[tactic(auto, unfolding(crate::specs::Records::rarer_word_named))]
+#[tactic(auto, unfolding(crate::specs::Records::word_named))]
 fn rarer_word(text: &[u8]) -> Option<Word>
-    ensures { result ≡ rarer_word_named text.now }
+    requires { IsRarer text.now }
+    ensures { result ≡ word_named text.now }
 {
     Some(match text {
         b"usd" => Word::Usd,
@@ -143,7 +144,7 @@ fn rarer_word(text: &[u8]) -> Option<Word>
 #[tactic(auto, unfolding(crate::specs::Records::word_named))]
 fn frequent_word(text: &[u8]) -> Option<Word>
     ensures found { IfSome result (λ word. word_named text.now ≡ Some word) }
-    ensures none { result ≡ None → word_named text.now ≡ rarer_word_named text.now }
+    ensures none { result ≡ None → IsRarer text.now }
 {
     if text.len() != 3 {
         return match text {

@@ -2,19 +2,17 @@
 ghost use Rattle.std.specs.Prelude.{◌≡◌, ◌≢◌, ◌⊎◌, ◌↔◌, true, false, Some, Err, Ok, IfOk, IfSome, OnOk, option_map};
 ghost use Rattle.std.specs.Result.{is_err};
 ghost use Rattle.std.specs.Io.KnownBytes.{Keeps};
-ghost use Rattle.csv.specs.Reading.{Ready, default_config, reader_config, reader_state, reader_trim, source_of, strip_bom};
+ghost use Rattle.csv.specs.Reading.{strip_bom};
 ghost use Rattle.csv.specs.Records.{fields_of};
 ghost use Rattle.csv.specs.declared.parser.State.TheVariants as state;
-ghost use Rattle.csv.specs.declared.reader.Trim.TheVariants as trim;
 ghost use Rattle.hlr_owners.specs.Owners.{AllHome, store_in};
 ghost use Rattle.hlr_owners.specs.Store.{HasOpening, opening};
-ghost use Rattle.hlr.specs.WholeRecords.{inner_remaining};
 ghost use Rattle.hlr.specs.Records.{command_of, field, word_named};
-ghost use Rattle.hlr.specs.Run.{IsFlushedAfter, Ran};
+ghost use Rattle.hlr.specs.Run.{IsFlushedAfter, Ran, RanUntil};
 ghost use Rattle.hlr.specs.Command.{Command as command};
 ghost use Rattle.hlr.specs.Inside.{AddsAnswer, Answers, AreAnswered, AreBrokenOff, HasCome, IsAtRest, report_on, word_of_report};
 ghost use Rattle.hlr.specs.Outgoing.{Adds, outgoing};
-ghost use Rattle.hlr.specs.Source.{RanUntil, StopsBehind};
+ghost use Rattle.hlr.specs.Source.{StopsBehind};
 ghost use Rattle.hlr.specs.Written.{HasRoom};
 ghost use Rattle.tatp_rows.specs.declared.refusal.Refusal.TheVariants as refusal;
 ghost use Rattle.hlr.specs.declared.fault.Fault.TheVariants as fault;
@@ -31,13 +29,12 @@ use crate::parts::{build_moved, build_post};
 use crate::records::{Report, Word, field, read_bounds, word_of};
 use crate::reports::{build_proposal, build_scan, build_views, write_index, write_regions};
 use crate::sink::{Sink, Stalled, flush_line, hand_on, make_room};
-use crate::source::Source;
-use crate::whole_records::WholeRecords;
-use csv::{ByteRecord, Reader, ReaderBuilder};
+use crate::source::{Records, Source};
+use csv::ByteRecord;
 use hlr_core::Register;
 use hlr_workers::Engine;
 use std::alloc::Global;
-use std::io::{self, Read};
+use std::io::Read;
 use std::sync::{Arc, Wait};
 use std::thread::Threads;
 use tatp_rows::Refusal;
@@ -203,11 +200,11 @@ fn answer_records<T: Source, S: Sink>(
     sink: &mut S,
 ) -> Result<(), Fault>
     requires open { T.is_open source.old }
-    requires start { (T.unread source.old).state ≡ state.StartRecord }
+    requires start { (T.seen.unread source.old).state ≡ state.StartRecord }
     requires home { AllHome register.old.owners }
     requires room { HasRoom line.old.items }
-    ensures text { IfSome (T.unread source.old).bytes
-        (λ bytes. HasCome (StopsBehind T.unread T.fails false bytes source.new) bytes
+    ensures text { IfSome (T.seen.unread source.old).bytes
+        (λ bytes. HasCome (StopsBehind T.seen false bytes source.new) bytes
         (λ rows. AreAnswered rows (store_in register.old) register.new (outgoing line.old.items (S.taken sink.old)) (outgoing line.new.items (S.taken sink.new)))
         (λ rows. AreBrokenOff rows (store_in register.old) (outgoing line.old.items (S.taken sink.old)) (outgoing line.new.items (S.taken sink.new)) (S.has_stalled sink.new)) result) }
     ensures write { result ≡ Err fault.Write → S.has_stalled sink.new ≡ true }
@@ -241,10 +238,10 @@ pub fn answer_all<T: Source, S: Sink>(
     sink: &mut S,
 ) -> Result<(), Fault>
     requires open { T.is_open source.old }
-    requires start { (T.unread source.old).state ≡ state.StartRecord }
+    requires start { (T.seen.unread source.old).state ≡ state.StartRecord }
     requires home { AllHome register.old.owners }
-    ensures text { IfSome (T.unread source.old).bytes
-        (λ bytes. RanUntil (StopsBehind T.unread T.fails false bytes source.new) (store_in register.old) bytes (S.taken sink.old) (S.taken sink.new) result) }
+    ensures text { IfSome (T.seen.unread source.old).bytes
+        (λ bytes. RanUntil (StopsBehind T.seen false bytes source.new) (store_in register.old) bytes (S.taken sink.old) (S.taken sink.new) result) }
     ensures write { result ≡ Err fault.Write → S.has_stalled sink.new ≡ true }
     ensures field { result ≢ Err fault.Field }
     ensures thread { result ≢ Err fault.Thread }
@@ -279,24 +276,6 @@ fn finish<S: Sink>(sink: &mut S, done: Result<(), Fault>) -> Result<(), Fault>
     }
 }
 
-/// Makes the records of a reader: those of CSV with no header row, with any number of fields. An error where there is
-/// no memory for a block.
-fn records_of<R: Read + Drop>(alloc: Global, reader: R) -> io::Result<Reader<WholeRecords<R>>>
-    ensures trims { IfOk result (λ records. reader_trim records ≡ trim.None) }
-    ensures ready { IfOk result Ready }
-    ensures config { IfOk result (λ records. reader_config records ≡ default_config) }
-    ensures start { IfOk result (λ records. reader_state records ≡ state.StartRecord) }
-    ensures source { IfOk result (λ records. source_of (inner_remaining R.remaining) records ≡ option_map strip_bom (R.remaining reader)) }
-{
-    let whole = WholeRecords::new(alloc, reader)?;
-    Ok(
-        ReaderBuilder::new()
-            .has_headers(false)
-            .flexible(true)
-            .from_reader(alloc, whole),
-    )
-}
-
 /// Answers all records of a reader from the store of a register, and flushes the sink.
 fn run_store<R: Read + Drop, S: Sink>(
     alloc: Global,
@@ -312,7 +291,7 @@ fn run_store<R: Read + Drop, S: Sink>(
     ensures thread { result ≢ Err fault.Thread }
     ensures flushed { IsFlushedAfter result (S.is_flushed sink.new) }
 {
-    let Ok(mut records) = records_of(alloc, reader) else {
+    let Ok(mut records) = Records::of(alloc, reader) else {
         return finish(sink, Err(Fault::Memory));
     };
     let mut row = ByteRecord::new(alloc);
@@ -389,7 +368,7 @@ fn run_engine<R: Read + Drop, H: Threads + Wait + Copy + Send + Sync + 'static, 
     ensures field { result ≢ Err fault.Field }
     ensures flushed { IsFlushedAfter result (S.is_flushed sink.new) }
 {
-    let Ok(mut records) = records_of(alloc, &mut reader) else {
+    let Ok(mut records) = Records::of(alloc, &mut reader) else {
         return finish(sink, Err(Fault::Memory));
     };
     let mut row = ByteRecord::new(alloc);

@@ -1,6 +1,7 @@
 //! What no clause says: readers and writers that are slow or fail, answers that come before a read may wait, the limit
 //! of records, and the options. Whole scripts lie in the repository's `tests/scripts`, each with its answers.
 mod any_bytes;
+mod owed;
 mod parts;
 
 use crate::fault::Fault;

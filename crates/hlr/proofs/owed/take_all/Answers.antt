@@ -31,7 +31,7 @@ returns-in_err-take_in_time-in-Ok-true-clause-text g c =
     let so = c.loop-count.invariant.so_far in
     let passed = err_from_is_err_and c.from_residual.result c.from_residual.ensures.1 in
     rw (passed.1, passed.2)
-    (owed_fails g.T.Source.unread g.T.Source.fails c.loop-count.source c.read.new.self _ _ _ c.in-Ok-true.ensures.reads _ _ _ _ _ _ _ so c.take_in_time.new.engine _
+    (owed_fails g.T.Source.seen c.read.new.self _ _ _ c.in-Ok-true.ensures.reads _ _ _ _ _ _ _ so c.take_in_time.new.engine _
     c.in_err-take_in_time-in-Ok-true.field-0.0 c.in-Ok-true.field-0-test (omega arith) (c.in_err-take_in_time-in-Ok-true.ensures.text so.rows _ _ so.underway))
 
 pub returns-in_err-take_in_time-in-Ok-true-clause-write : goal.returns-in_err-take_in_time-in-Ok-true-clause-write
@@ -48,10 +48,10 @@ returns-in_err-take_in_time-in-Ok-true-clause-field g c =
 
 pub returns-in-Err-clause-text : goal.returns-in-Err-clause-text
 returns-in-Err-clause-text g c =
-    owed_stops g.T.Source.unread g.T.Source.fails c.loop-count.source c.read.new.self _ _ _ _ _ _ (λ rows. AreBrokenOff rows (store_in c.args.engine.now.register) (outgoing c.args.line.now.items (g.S.Sink.taken c.args.sink.now)) (outgoing c.loop-count.line.items (g.S.Sink.taken c.loop-count.sink)) (g.S.Sink.has_stalled c.loop-count.sink)) c.in-Err.why c.loop-count.invariant.so_far c.loop-count.invariant.few c.in-Err.ensures.failed
+    owed_stops g.T.Source.seen c.loop-count.source c.read.new.self _ _ _ _ _ _ (λ rows. AreBrokenOff rows (store_in c.args.engine.now.register) (outgoing c.args.line.now.items (g.S.Sink.taken c.args.sink.now)) (outgoing c.loop-count.line.items (g.S.Sink.taken c.loop-count.sink)) (g.S.Sink.has_stalled c.loop-count.sink)) c.in-Err.why c.loop-count.invariant.so_far c.loop-count.invariant.few c.read.ensures.begun c.in-Err.ensures.failed
     c.in-Err.ensures.fault
 
 pub returns-then-count-eq-RECORDS-clause-text : goal.returns-then-count-eq-RECORDS-clause-text
 returns-then-count-eq-RECORDS-clause-text g c =
-    owed_stops_at_last g.T.Source.unread g.T.Source.fails c.loop-count.source c.read.new.self _ _ _ c.in-Ok-true.ensures.reads _ _ _ _ (outgoing c.loop-count.line.items (g.S.Sink.taken c.loop-count.sink))
+    owed_stops_at_last g.T.Source.seen c.read.new.self _ _ _ c.in-Ok-true.ensures.reads _ _ _ _ (outgoing c.loop-count.line.items (g.S.Sink.taken c.loop-count.sink))
     (outgoing c.loop-count.line.items (g.S.Sink.taken c.loop-count.sink)) _ c.loop-count.invariant.so_far (λ rows. ⊤) c.in-Ok-true.field-0-test (omega arith)

@@ -9,8 +9,8 @@ loop-count-init g c = record {
   few = omega arith;
   home = c.requires.home;
   room = c.requires.room;
-  so_far = if_known (g.T.Source.unread c.args.source.now).bytes _ (λ bytes is.
-      started bytes (g.T.Source.unread c.args.source.now) c.args.register.now (outgoing c.args.line.now.items (g.S.Sink.taken c.args.sink.now)) is c.requires.start);
+  so_far = if_known (g.T.Source.seen.unread c.args.source.now).bytes _ (λ bytes is.
+      started bytes (g.T.Source.seen.unread c.args.source.now) c.args.register.now (outgoing c.args.line.now.items (g.S.Sink.taken c.args.sink.now)) is c.requires.start);
 }
 
 pub returns-in-Ok-false-clause-text : goal.returns-in-Ok-false-clause-text
@@ -27,14 +27,14 @@ returns-then-is_err-clause-text g c =
 pub returns-in-Err-clause-text : goal.returns-in-Err-clause-text
 returns-in-Err-clause-text g c =
     if_some _ _ _ (λ bytes so.
-    stops_so (StopsBehind g.T.Source.unread g.T.Source.fails false bytes c.read.new.self)
+    stops_so (StopsBehind g.T.Source.seen false bytes c.read.new.self)
     (λ rows. AreBrokenOff rows (store_in c.args.register.now) (outgoing c.args.line.now.items (g.S.Sink.taken c.args.sink.now)) (outgoing c.loop-count.line.items (g.S.Sink.taken c.loop-count.sink)) (g.S.Sink.has_stalled c.loop-count.sink)) _ _ _ c.loop-count.register _ _ _ _ so c.loop-count.invariant.few (read_is_no_write _ c.in-Err.ensures.fault)
-    (stopped_by_read g.T.Source.unread g.T.Source.fails false bytes so.rows c.read.new.self c.loop-count.source _ so.read c.in-Err.ensures.failed c.in-Err.ensures.fault)) c.loop-count.invariant.so_far
+    (stopped_by_read g.T.Source.seen false bytes so.rows c.read.new.self c.loop-count.source _ so.read c.read.ensures.begun c.in-Err.ensures.failed c.in-Err.ensures.fault)) c.loop-count.invariant.so_far
 
 pub returns-then-count-eq-RECORDS-clause-text : goal.returns-then-count-eq-RECORDS-clause-text
 returns-then-count-eq-RECORDS-clause-text g c =
     if_some _ _ _ (λ bytes so.
-    stops_full g.T.Source.unread g.T.Source.fails c.read.new.self (λ rows. ⊤) _ bytes _ _ _ c.loop-count.register _ _ _ so _ c.in-Ok-true.ensures.reads c.in-Ok-true.field-0-test (omega arith)) c.loop-count.invariant.so_far
+    stops_full g.T.Source.seen c.read.new.self (λ rows. ⊤) _ bytes _ _ c.loop-count.register _ _ _ so _ c.in-Ok-true.ensures.reads c.in-Ok-true.field-0-test (omega arith)) c.loop-count.invariant.so_far
 
 pub loop-count-preserved : goal.loop-count-preserved
 loop-count-preserved g c =

@@ -8,6 +8,6 @@ invariant-loop-count g l = record {
   few : l.count ≤ 1048576;
   home : AllHome l.register.owners;
   room : HasRoom l.line.items;
-  so_far : IfSome (g.T.Source.unread l.fn.source).bytes (λ bytes.
-      SoFar (store_in l.fn.register) bytes (g.T.Source.unread l.source) l.register (outgoing l.fn.line.items (g.S.Sink.taken l.fn.sink)) (outgoing l.line.items (g.S.Sink.taken l.sink)) l.count);
+  so_far : IfSome (g.T.Source.seen.unread l.fn.source).bytes (λ bytes.
+      SoFar (store_in l.fn.register) bytes (g.T.Source.seen.unread l.source) l.register (outgoing l.fn.line.items (g.S.Sink.taken l.fn.sink)) (outgoing l.line.items (g.S.Sink.taken l.sink)) l.count);
 }

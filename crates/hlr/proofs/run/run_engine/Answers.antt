@@ -6,7 +6,7 @@ use Rattle.hlr.proofs.run.run_engine.Goals as goal
 pub returns-in_default-clause-text : goal.returns-in_default-clause-text
 returns-in_default-clause-text g c =
     if_known _ _ (λ bytes is.
-    ran_finished _ _ _ _ _ (Err fault.Memory) _ (ran_nothing _ _ _ _ fault.Memory (keeps_same _)) c.finish.ensures.bytes c.finish.ensures.answer)
+    ran_finished _ _ _ _ _ (Err fault.Memory) _ (ran_nothing _ _ _ _ fault.Memory (λ is. cc) (keeps_same _)) c.finish.ensures.bytes c.finish.ensures.answer)
 
 pub returns-clause-text : goal.returns-clause-text
-returns-clause-text g c = ran_flushed _ _ _ _ _ _ _ _ _ c.in-Ok.ensures.source c.answer_all_by-done.ensures.text c.finish-2.ensures.bytes c.finish-2.ensures.answer
+returns-clause-text g c = ran_flushed _ _ _ _ _ _ _ _ _ _ _ c.in-Ok.ensures.source c.answer_all_by-done.ensures.text c.finish-2.ensures.bytes c.finish-2.ensures.answer
