@@ -1,20 +1,38 @@
 /*
- * hlr.hpp: the register for C++17, a thin wrapper over hlr.h.
+ * hlr.hpp: an embeddable home location register (HLR) for C++17, as a thin wrapper over hlr.h.
  *
- *     hlrpp::store store;
- *     if (store.open(1, 524288) == hlrpp::code::done) { ... }     // it closes itself
+ *     #include <cinttypes>
+ *     #include <cstdio>
+ *     #include <hlr.hpp>
  *
- * A store has a register, or is closed. It can be moved and not copied; a store that was moved from is closed. A store
- * that goes out of scope closes itself. A part that the store lends is the same: it has a part, and sends it home as it
- * goes out of scope.
+ *     int main() {
+ *         hlrpp::store store;
+ *         hlrpp::subscriber row{7, 49151000007, {}, {}, {}, 1, 1};
+ *         if (store.open(1, 524288) != hlrpp::code::done) return 1;
+ *         if (store.add_subscriber(row) != hlrpp::code::done) return 1;
+ *         if (store.update_location(row.sub_nbr, 268435456) != hlrpp::code::done) return 1;
+ *         hlrpp::code read = store.subscriber_data(7, row);
+ *         std::printf("%s: the location is %" PRIu64 "\n", hlrpp::name(read), row.vlr_location);
+ *     }
  *
- * Each call answers a code, which mustn't be left unread. Nothing throws. hlr.h tells what each call does, which codes
- * it answers, and what its caller owes; a call has the same name there, with hlr_ before it. In short:
- *   - One call at a time works on a store, and one on a part, so no call is const.
- *   - What a call writes by reference it writes where it answers code::done. Give it a value first, as
- *     hlrpp::subscriber row{}, and hand no call the same thing twice.
+ * It prints "Done: the location is 268435456", and the store closes itself as it goes out of scope. Compile it with
+ * what `pkg-config --cflags --libs hlr` prints.
  *
- * The namespace isn't hlr, since that is the type of a handle in hlr.h.
+ * A store has a register, or is closed. A part is what a store lends: it has a part of the register, or is closed. Both
+ * can be moved but not copied, and one that was moved from is closed. As they go out of scope, a store closes itself
+ * and a part sends itself home.
+ *
+ * Each call returns a code, and the compiler warns if you don't look at it. Nothing throws. hlr.h says what each call
+ * does, which codes it returns and in what order, and which rules are up to its callers; a call has the same name
+ * there, with hlr_ or hlr_part_ in front. These rules are the ones that people break first:
+ *
+ *   1. Make one call at a time on a store, and one on a part, even if the calls only read. For this reason no call is
+ *      const.
+ *   2. Give each variable a value before you pass it, for example with hlrpp::subscriber row{}. A call writes its
+ *      results only if it returns code::done.
+ *   3. Don't pass the same object twice in one call.
+ *
+ * The namespace is called hlrpp because hlr is the type of a handle in hlr.h.
  */
 #ifndef HLR_HPP
 #define HLR_HPP
@@ -27,7 +45,7 @@
 
 namespace hlrpp {
 
-/* What a call answers: that it is done, or why it was refused. */
+/* What a call returns: that it is done, or why it was refused. */
 enum class [[nodiscard]] code : std::uint8_t {
     done = HLR_DONE,
     memory = HLR_MEMORY,
@@ -54,7 +72,7 @@ enum class [[nodiscard]] code : std::uint8_t {
     still_open = HLR_STILL_OPEN
 };
 
-/* The name of a code, as the program hlr prints refusals. */
+/* Returns the name of a code, as the program hlr prints it in refusals. */
 [[nodiscard]] constexpr const char *name(code answered) noexcept {
     switch (answered) {
     case code::done: return "Done";
@@ -97,24 +115,24 @@ using bounds = hlr_bounds;
 
 inline constexpr std::size_t cells = HLR_CELLS;
 
-/* The counts that store::scan finds. */
+/* The counts that store::scan makes, one for each cell. */
 using counts = std::array<std::uint64_t, cells>;
 
-/* What store::views reads: each cell as published, and what isn't posted of it yet. */
+/* What store::views reads: what is published and what is unposted of each cell. */
 struct view {
     std::array<std::int64_t, cells> published;
     std::array<std::int64_t, cells> unposted;
 };
 
-/* Which end store::give gives away: the subscribers below a number, or those from it on. */
+/* Which end of a part store::give cuts off: the subscribers below a number, or those from it on. */
 enum class side : std::uint64_t { low = 0, high = 1 };
 
 namespace detail {
-/* Codes, as hlr.h has them: a byte each. */
+/* Returns codes as hlr.h has them, which is one byte each. */
 inline std::uint8_t *bytes(code *codes) noexcept { return reinterpret_cast<std::uint8_t *>(codes); }
 } // namespace detail
 
-/* A part that is out, or a closed handle. */
+/* A lent part, or a closed handle. */
 class part {
 public:
     constexpr part() noexcept = default;
@@ -133,13 +151,13 @@ public:
         return *this;
     }
 
-    /* The handle, for calls of hlr.h. */
+    /* Returns the handle, for calls of hlr.h. */
     [[nodiscard]] hlr_part *handle() noexcept { return &handle_; }
 
     code home() noexcept { return code{hlr_home(&handle_)}; }
     code range(std::uint64_t &lo, std::uint64_t &hi) noexcept { return code{hlr_part_range(&handle_, &lo, &hi)}; }
 
-    /* Reads. */
+    /* Calls that read. */
     code subscriber_data(std::uint64_t s_id, subscriber &row) noexcept {
         return code{hlr_part_subscriber_data(&handle_, s_id, &row)};
     }
@@ -151,7 +169,7 @@ public:
         return code{hlr_part_access_data(&handle_, s_id, ai_type, &row)};
     }
 
-    /* Many reads: of each array the first count elements. */
+    /* Calls that read many rows: they use the first count elements of each array. */
     code subscriber_data_many(const std::uint64_t *s_ids, subscriber *rows, code *codes, std::size_t count) noexcept {
         return code{hlr_part_subscriber_data_many(&handle_, s_ids, count, rows, count, detail::bytes(codes), count)};
     }
@@ -162,7 +180,7 @@ public:
         return code{hlr_part_access_data_many(&handle_, asked, count, rows, count, detail::bytes(codes), count)};
     }
 
-    /* Changes. */
+    /* Calls that change rows. */
     code update_subscriber(std::uint64_t s_id, std::uint64_t sf_type, std::uint64_t bit_1, std::uint64_t data_a) noexcept {
         return code{hlr_part_update_subscriber(&handle_, s_id, sf_type, bit_1, data_a)};
     }
@@ -187,12 +205,13 @@ public:
     }
 
 private:
-    /* Sends it home, where it is open. */
+    /* Sends the part home, if there is one. */
     void leave() noexcept { hlr_home(&handle_); }
 
     hlr_part handle_ = HLR_CLOSED;
 };
 
+/* A register, or a closed handle. */
 class store {
 public:
     constexpr store() noexcept = default;
@@ -211,16 +230,16 @@ public:
         return *this;
     }
 
-    /* Whether it has a register. No subscriber is 0, so an open one refuses this with code::field. */
+    /* Tells whether the store has a register: an open one refuses subscriber 0 with code::field. */
     [[nodiscard]] bool is_open() noexcept { return hlr_set_active(&handle_, 0, 1, 1) != HLR_NOT_OPEN; }
 
-    /* The handle, for calls of hlr.h. */
+    /* Returns the handle, for calls of hlr.h. */
     [[nodiscard]] hlr *handle() noexcept { return &handle_; }
 
     code open(std::uint64_t parts, std::uint64_t width) noexcept { return code{hlr_open(parts, width, &handle_)}; }
     code close() noexcept { return code{hlr_close(&handle_)}; }
 
-    /* Reads. */
+    /* Calls that read. */
     code subscriber_data(std::uint64_t s_id, subscriber &row) noexcept {
         return code{hlr_subscriber_data(&handle_, s_id, &row)};
     }
@@ -244,7 +263,7 @@ public:
         return code{hlr_next_subscriber(&handle_, from, &row)};
     }
 
-    /* Many reads: of each array the first count elements. */
+    /* Calls that read many rows: they use the first count elements of each array. */
     code subscriber_data_many(const std::uint64_t *s_ids, subscriber *rows, code *codes, std::size_t count) noexcept {
         return code{hlr_subscriber_data_many(&handle_, s_ids, count, rows, count, detail::bytes(codes), count)};
     }
@@ -255,7 +274,7 @@ public:
         return code{hlr_access_data_many(&handle_, asked, count, rows, count, detail::bytes(codes), count)};
     }
 
-    /* Changes. */
+    /* Calls that change rows. */
     code update_subscriber(std::uint64_t s_id, std::uint64_t sf_type, std::uint64_t bit_1, std::uint64_t data_a) noexcept {
         return code{hlr_update_subscriber(&handle_, s_id, sf_type, bit_1, data_a)};
     }
@@ -279,7 +298,7 @@ public:
         return code{hlr_set_number(&handle_, s_id, sub_nbr)};
     }
 
-    /* Counts. */
+    /* Calls on the counts. */
     code post(std::uint64_t part, std::uint64_t limit, std::uint64_t &posted) noexcept {
         return code{hlr_post(&handle_, part, limit, &posted)};
     }
@@ -289,7 +308,7 @@ public:
     }
     code scan(counts &found) noexcept { return code{hlr_scan(&handle_, found.data())}; }
 
-    /* Parts. */
+    /* Calls that move, divide and dissolve parts. */
     code give(std::uint64_t part, side end, std::uint64_t at, region &given) noexcept {
         return code{hlr_give(&handle_, part, static_cast<std::uint64_t>(end), at, &given)};
     }
@@ -302,12 +321,12 @@ public:
     code propose(bounds &proposed) noexcept { return code{hlr_propose(&handle_, &proposed)}; }
     code recut(const bounds &wanted, std::uint64_t &moved) noexcept { return code{hlr_recut(&handle_, &wanted, &moved)}; }
 
-    /* Parts that are out. */
+    /* Calls that lend parts. */
     code lend(std::uint64_t number, part &lent) noexcept { return code{hlr_lend(&handle_, number, lent.handle())}; }
     code back(std::uint64_t number) noexcept { return code{hlr_back(&handle_, number)}; }
 
 private:
-    /* Closes it, where it is open. */
+    /* Closes the register, if there is one. */
     void shut() noexcept { hlr_close(&handle_); }
 
     hlr handle_ = HLR_CLOSED;

@@ -4,6 +4,7 @@
 . tests/outside/c_lib.sh || exit 1
 header=crates/hlr_c/hlr.h
 in_library=tests/outside/library
+strict=(-Wconversion -Wpedantic)
 
 # client NAME WORD ..: compiles a client with the library.
 client() { compiled "$1" -std=c11 -pthread -Icrates/hlr_c "${@:2}" "$archive" "$(kit_archive)"; }
@@ -41,9 +42,27 @@ days() {
   ended 'a day in C with a small stack' "$day.stdout" "$room/small_stack"
 }
 
+# program_of HEADER: prints the program in the first comment of a header.
+program_of() { sed -n '/^ \*     #include </,/^ \*     }$/s/^ \* \{0,5\}//p' "crates/hlr_c/$1"; }
+
+# output_of HEADER: prints what that comment says of the program's output.
+output_of() { sed -n 's/^ \* It prints "\([^"]*\)".*/\1/p' "crates/hlr_c/$1"; }
+
+# The programs with which hlr.h and hlr.hpp begin are compiled, and print what is said there.
+heads() {
+  program_of hlr.h > "$room/head.c"
+  if client head "${strict[@]}" "$room/head.c"; then ended 'the program in hlr.h' <(output_of hlr.h) "$room/head"; fi
+  tool g++ 'the program in hlr.hpp' || return
+  program_of hlr.hpp > "$room/head.cc"
+  if g++ -std=c++17 -O2 -Wall -Wextra "${strict[@]}" -Werror -Icrates/hlr_c "$room/head.cc" "$archive" "$(kit_archive)" -o "$room/head_cc"; then
+    ended 'the program in hlr.hpp' <(output_of hlr.hpp) "$room/head_cc"
+  else
+    fail "the program in hlr.hpp isn't compiled"
+  fi
+}
+
 # The examples of the pages, by the strictest warnings; the one with threads also under valgrind.
 examples() {
-  local strict=(-Wconversion -Wpedantic)
   if client first "${strict[@]}" examples/library/first.c; then
     ended 'first.c' <(printf 'Done, Done, Done\nsubscribers in area 2: 1\n') "$room/first"
   fi
@@ -100,6 +119,7 @@ python() {
 tool gcc 'the library for C' || finish
 headers
 archive_built || finish
+heads
 days
 examples
 clients
