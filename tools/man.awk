@@ -2,9 +2,9 @@
 #
 #   hlr --help | awk -v version=0.3.0 -v day=2026-01-01 -f tools/man.awk
 #
-# A line with two blanks in front, or one and a number, is a row of a table: what stands in front of two blanks is
-# explained by what stands behind them, and a table of numbers has several entries a row. Behind `Example:` rows are what
-# a terminal shows. Any other line is text, in paragraphs.
+# A line that begins with two blanks, or with one and a number, is a row of a table: the text before the next two blanks
+# is explained by the text after them, and a table of numbers has several entries in each row. Behind `Examples:`, such
+# lines are what a terminal shows. All other lines are text, in paragraphs.
 function roff(text) {
   gsub(/\\/, "\\e", text)
   gsub(/-/, "\\-", text)
@@ -20,6 +20,13 @@ function entry(word, about, indent) {
   print ".TP" indent
   print "\\fB" roff(word) "\\fR"
   print roff(about)
+}
+
+# begins what a terminal shows, or ends it
+function shown(now) {
+  if (now && !is_shown) print ".PP\n.EX"
+  if (!now && is_shown) print ".EE"
+  is_shown = now
 }
 
 NR == 1 {
@@ -44,11 +51,13 @@ NR == 1 {
 
 /^Options:$/ { heading("OPTIONS"); in_options = 1; next }
 
-/^Example:$/ { heading("EXAMPLE"); in_example = 1; was_blank = 0; next }
+/^Examples:$/ { heading("EXAMPLES"); in_examples = 1; next }
 
-/^The status is / { if (in_example) print ".EE"; in_example = 0; heading("EXIT STATUS") }
+/^The status is / { shown(0); in_examples = 0; heading("EXIT STATUS") }
 
-in_example && /./ { if (!is_shown++) print ".EX"; print roff(substr($0, 3)); next }
+in_examples && /^ / { shown(1); print roff(substr($0, 3)); next }
+
+in_examples && /./ { if (is_shown) { shown(0); print ".PP" }; print roff($0); next }
 
 /^$/ { was_blank = 1; next }
 

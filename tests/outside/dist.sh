@@ -158,7 +158,7 @@ manual() {
   LC_ALL=C MANWIDTH=100 man --warnings -l "$page" > "$room/page" 2> "$room/err" < /dev/null
   is 'the manual page: status' "$?" 0
   is 'the manual page: faults' "$(cat "$room/err")" ''
-  "$hlr" --help < /dev/null | grep -vE '^(Usage: .*|Options:|Example:)$' | tr -s ' ' '\n' | grep . > "$room/words"
+  "$hlr" --help < /dev/null | grep -vE '^(Usage: .*|Options:|Examples:)$' | tr -s ' ' '\n' | grep . > "$room/words"
   tr -s ' ' '\n' < "$room/page" | awk 'FNR == NR { page[++last] = $0; next }
     { do at++; while (at <= last && page[at] != $0); if (at > last) { print; exit } }' - "$room/words" > "$room/lost"
   is 'the manual page: the first word of the help that it lacks' "$(cat "$room/lost")" ''

@@ -14,6 +14,23 @@ For more information, try '--help'.
 "
 }
 
+# examples_of HELP: the two examples with which the help ends do what it says.
+examples_of() {
+  local records words
+  sed -n '/^Examples:$/,$p' "$1" > "$room/examples"
+  sed -n '/^  [^$]/s/^  //p' "$room/examples" > "$room/examples.want"
+  sed -n "s/^  [$] \(printf .*\) | hlr\(.*\)$/\1\n\2/p" "$room/examples" > "$room/commands"
+  is '--help: its examples' "$(wc -l < "$room/commands")" 4
+  : > "$room/examples.out"
+  while read -r records && read -ra words; do
+    sh -c "$records" > "$room/in"
+    hlr_on "${words[@]}" < "$room/in"
+    is '--help: the status of an example' "$status" 0
+    cat "$room/out" >> "$room/examples.out"
+  done < "$room/commands"
+  same '--help: its examples' "$room/examples.out" "$room/examples.want"
+}
+
 options() {
   local word
   hlr_on --help < /dev/null
@@ -24,7 +41,7 @@ options() {
   has '--help' "$room/out" '--threads'
   is '--help: standard error' "$(wc -c < "$room/err")" 0
   for word in gsd gnd gad usd ul icf dcf sub acc fac active number post give take views scan index regions propose recut divide dissolve; do
-    is "--help: the command $word" "$(grep -c "^  ${word}[, ]" "$room/out")" "$([ "$word" = give ] && echo 2 || echo 1)"
+    is "--help: the command $word" "$(grep -cE "^  ${word}(,[^ ]*)?  +[^ ]" "$room/out")" "$([ "$word" = give ] && echo 2 || echo 1)"
   done
   has '--help' "$room/out" 'refused,CODE,NAME'
   for word in '1 Memory' '2 Field' '3 NoSubscriber' '4 NoNumber' '5 NoAccess' '6 NoFacility' '7 NoForwarding' \
@@ -33,15 +50,9 @@ options() {
     is "--help: the refusal $word" "$(grep -cwF -e "$word" "$room/out")" 1
   done
   has '--help' "$room/out" 'cell 24 + V / 268435456'
-  has '--help' "$room/out" 'give --zone the greatest S divided by 32, rounded up'
+  has '--help' "$room/out" 'set --zone to your highest S divided by 32, rounded up'
   has '--help' "$room/out" "The status is 0, or 1 after 'hlr: no memory'"
-  # the example that it ends with does what it says
-  sed -n "s/^  [$] \(printf .*\) | hlr$/\1/p" "$room/out" > "$room/example"
-  sed -n '/^  [$] printf/,/^$/s/^  \([^$].*\)$/\1/p' "$room/out" > "$room/example.out"
-  is '--help: its example' "$(wc -l < "$room/example")" 1
-  sh "$room/example" > "$room/in"
-  hlr_on < "$room/in"
-  same '--help: its example' "$room/out" "$room/example.out"
+  examples_of "$room/out"
   hlr_on --version < /dev/null
   ends '--version' 0 "hlr $version"$'\n' ''
   has 'CHANGELOG.md' CHANGELOG.md "## $version"

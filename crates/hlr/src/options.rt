@@ -10,74 +10,88 @@ use part_table::{MOST_PARTS, can_open};
 use std::alloc::{AllocError, Global};
 use tatp_rows::GREATEST_WIDTH;
 
-/// The version that the program answers.
+/// The version that `--version` prints.
 const VERSION: &str = "0.3.0";
 
-/// What the program is.
-const ABOUT: &str = "A home location register. It answers command records.";
+/// What the program is, in the first line of `--help`.
+const ABOUT: &str = "A home location register (HLR). It reads commands as CSV, and writes a reply to each one.";
 
-/// What the program reads and writes, with an example.
+/// What the program reads and writes, with two examples: the text of `--help` behind the options.
 const FORMATS: &str = "\
-Standard input is CSV without a header row, a command a record. Each record is answered on standard output, before
-the program waits for more input.
+Standard input is CSV without a header row. Each record is a command, and its reply is written to standard output
+before the program waits for more input. These are the commands, each with its reply behind the colon:
 
-  sub,S,N,BITS,HEXES,BYTES,M,V   adds the subscriber S, 1 to 16777216, of number N, 15 digits: ok
+  sub,S,N,BITS,HEXES,BYTES,M,V   adds the subscriber S, 1 to 16777216, with the number N of 15 digits: ok
   acc,S,A,D,E,C,B                adds an access of type A: ok
   fac,S,F,I,E,D,B                adds a facility of type F: ok
-  gsd,S                          shows a subscriber: subscriber,S,N,BITS,HEXES,BYTES,M,V
-  gnd,S,F,T,U                    shows where calls are forwarded to by the hour T, beyond the hour U: numbers,N,..
-  gad,S,A                        shows an access: access,D,E,C,B
-  usd,S,F,I,D                    sets the first of BITS, and D of the facility: ok
-  ul,N,V                         sets the location of the subscriber of number N: ok
-  icf,N,F,T,U,X                  forwards calls from the hour T to the hour U to the number X: ok
-  dcf,N,F,T                      ends that: ok
-  active,S,F,I                   switches a facility on or off: ok
+  gsd,S                          reads a subscriber: subscriber,S,N,BITS,HEXES,BYTES,M,V
+  gnd,S,F,T,U                    reads the numbers of the forwardings that start by T and end after U: numbers,N,..
+  gad,S,A                        reads an access: access,D,E,C,B
+  usd,S,F,I,D                    sets the first of BITS to I and D of the facility, or neither: ok
+  ul,N,V                         sets the location V of the subscriber with the number N: ok
+  icf,N,F,T,U,X                  adds a forwarding to the number X, from the hour T to the hour U: ok
+  dcf,N,F,T                      removes the forwarding that starts at T: ok
+  active,S,F,I                   switches a facility and all its forwardings on (I is 1) or off (I is 0): ok
   number,S,N                     gives a subscriber another number: ok
-  post,P,L                       publishes the changed counts of at most L cells of the part P: posted,CELLS
-  give,P,high,S                  the part P gives its subscribers from S on away, as a loose piece: piece,K,FROM,TO
-  give,P,low,S                   the same with those below S
-  take,K,P                       the part P takes the loose piece K beside it: taken,K,P
-  divide,P,S                     a new part Q, P + 1, gets the part P's subscribers from S on: divided,Q,FROM,TO
-  dissolve,P                     the part Q, P - 1, gets the part P's subscribers: dissolved,Q,FROM,TO
-  views                          shows the counts that aren't 0: cell,CELL,PUBLISHED,UNPOSTED lines, then views,LINES
-  scan                           counts the rows anew: cell,CELL,COUNT lines, then scan,LINES
-  index                          shows all numbers: number,N,S lines, then index,LINES
-  regions                        shows all ranges: part,P,FROM,TO and piece,K,FROM,TO lines, then regions,LINES
-  propose                        shows bounds that give each part about its share of the published rows: bounds,S,..
+  post,P,L                       publishes the first L unposted cells of the part P: posted,CELLS
+  give,P,high,S                  cuts the subscribers from S on off the part P, as a loose piece K: piece,K,FROM,TO
+  give,P,low,S                   does the same with the subscribers below S: piece,K,FROM,TO
+  take,K,P                       joins the loose piece K to the part P next to it: taken,K,P
+  divide,P,S                     makes a new part Q, P + 1, of the part P's subscribers from S on: divided,Q,FROM,TO
+  dissolve,P                     joins the part P to the part Q in front of it, P - 1: dissolved,Q,FROM,TO
+  views                          shows the counts that aren't 0: lines cell,CELL,PUBLISHED,UNPOSTED, then views,LINES
+  scan                           counts all rows anew: lines cell,CELL,COUNT, then scan,LINES
+  index                          shows all numbers in order: lines number,N,S, then index,LINES
+  regions                        shows all ranges: lines part,P,FROM,TO and piece,K,FROM,TO, then regions,LINES
+  propose                        shows bounds that would share the published rows evenly: bounds,S,..
   recut,S,..                     moves the bounds between the parts to these: recut,MOVES
 
-BITS are 10 digits 0 or 1, HEXES 10 and BYTES 20 hexadecimal digits, and the locations M and V 1 to 4294967295. The
-types A and F are 1 to 4, D and E 0 to 255, I is 0 or 1, T is 0, 8 or 16, U 1 to 24, X is a number as N, C is 3 and B
-5 letters A to Z. A run starts with no subscriber and keeps none. It ends with its input, or after 1048576 records.
+BITS are 10 digits 0 or 1, HEXES are 10 hexadecimal digits, and BYTES are 20. The locations M and V are 1 to
+4294967295. The types A and F are 1 to 4, D and E are 0 to 255, and I is 0 or 1. The hour T is 0, 8 or 16, and the
+hour U is 1 to 24. X is a number like N, C is three letters A to Z, and B is five.
 
-Any other record, or one that can't be done, is answered refused,CODE,NAME, by which it is told why:
+A run starts without subscribers and keeps none. It ends with its input, or after 1048576 records. A blank line gets
+no reply. The reply to a record that isn't a command, or can't be done, is refused,CODE,NAME, with one of these:
 
   1 Memory          2 Field           3 NoSubscriber    4 NoNumber        5 NoAccess        6 NoFacility
   7 NoForwarding    8 NoDestination   9 Exists         10 NumberTaken    11 Moving         12 NoPart
  13 NoPiece        14 OutOfRange     15 NotAdjacent    16 ManyPieces     17 Worn           19 Syntax
  22 ManyParts
 
-18 Thread, 20 Read and 21 Write are no answers. A blank line has none.
+The codes 18 Thread, 20 Read and 21 Write belong to faults that end a run, and are never replies.
 
-Each CELL is a count: 0 to 23 of the forwardings by hour whose facility is on, those with T <= CELL < U; 24 to 39 of
-the subscribers by area, cell 24 + V / 268435456; 40 to 71 of the rows of all kinds by zone, cell 40 + (S - 1) / W where
---zone gives W, and 71 for all zones behind it too.
+Each CELL is one live count. The cells 0 to 23 count the forwardings of active facilities by hour: those with
+T <= CELL < U. The cells 24 to 39 count the subscribers by area, each one in cell 24 + V / 268435456. The cells 40
+to 71 count the rows of all four tables by zone, each one in cell 40 + (S - 1) / W, where --zone gives W, or in cell 71
+if that is more.
 
-The subscribers are shared among parts, numbered from 0: each part has those from a number FROM on and below a number
-TO, and publishes their counts. What a part gives away is a loose piece until a part beside it takes it; till then
-its subscribers are answered refused,11,Moving. A bound S between two parts is the first subscriber of the second.
-Parts may come and go, with 1 to 16 at any time; the numbers of those behind rise or fall by one. What a part that
-goes has published is taken back, and is unposted in the part that gets its subscribers. propose shares rows out by
-whole zones, so give --zone the greatest S divided by 32, rounded up, and post every part before propose, which goes
-by the published counts.
+The subscribers are shared among 1 to 16 parts, which are numbered from 0. Each part has the subscribers from FROM on
+and below TO, and publishes their counts. What a part gives away is a loose piece until a part next to it takes it.
+Until then, commands for its subscribers get the reply refused,11,Moving. A bound S between two parts is the first
+subscriber of the second one. When a part is divided or dissolved, the numbers of all later parts rise or fall by one.
+What a dissolved part had published is taken back, and is unposted in the part that gets its subscribers.
 
-Example:
+Because propose only places bounds between zones, set --zone to your highest S divided by 32, rounded up. Because it
+counts only what is published, post every part first.
+
+Examples:
+
+Add a subscriber, and read it:
 
   $ printf 'sub,7,000000000000007,0000000000,0000000000,00000000000000000000,1,5\\ngsd,7\\n' | hlr
   ok
   subscriber,7,000000000000007,0000000000,0000000000,00000000000000000000,1,5
 
-The status is 0, or 1 after 'hlr: no memory', 'hlr: no thread', 'hlr: read fault' or 'hlr: write fault', or 2 where an
+Add a subscriber to the first of two parts, publish its counts, and show them:
+
+  $ printf 'sub,7,000000000000007,0000000000,0000000000,00000000000000000000,1,5\\npost,0,72\\nviews\\n' | hlr --parts 2
+  ok
+  posted,2
+  cell,24,1,0
+  cell,40,1,0
+  views,2
+
+The status is 0, or 1 after 'hlr: no memory', 'hlr: no thread', 'hlr: read fault' or 'hlr: write fault', or 2 if an
 option is wrong.";
 
 /// The options of the program.
@@ -99,7 +113,7 @@ fn parts_arg<'a>(alloc: Global) -> Arg<'a>
     Arg::new(alloc, "parts")
         .long("parts")
         .value_name("N")
-        .help("How many parts share the subscribers at first, 1 to 16")
+        .help("Opens the register with N parts, 1 to 16, that share the subscribers")
         .value_parser(ValueParser::signed(1, i64::from(MOST_PARTS)))
         .default_value("1")
 }
@@ -112,7 +126,7 @@ fn zone_arg<'a>(alloc: Global) -> Arg<'a>
     Arg::new(alloc, "zone")
         .long("zone")
         .value_name("W")
-        .help("How many subscribers a zone has, 1 to 524288")
+        .help("Gives each zone W subscribers, 1 to 524288")
         .value_parser(ValueParser::signed(1, i64::from(GREATEST_WIDTH)))
         .default_value("524288")
 }
@@ -124,7 +138,7 @@ fn threads_arg<'a>(alloc: Global) -> Arg<'a>
 {
     Arg::new(alloc, "threads")
         .long("threads")
-        .help("Has each part work in a thread of its own, with the same answers")
+        .help("Runs each part in a thread of its own, with the same replies")
         .action(ArgAction::SetTrue)
 }
 
@@ -162,8 +176,8 @@ fn read_threads(matches: &ArgMatches<'_>) -> Option<bool>
     matches.get_one::<bool>("threads")
 }
 
-/// Reads the options that the program's words ask for, of which the first is the program's name. An error has one of
-/// the kinds that the words call for, which is a request for help or the version too, or `OutOfMemory`.
+/// Reads the options from the words with which the program was started; the first word is the program's name. An error
+/// has a kind that the words call for (a request for help or for the version is an error, too), or `OutOfMemory`.
 pub fn read_options<'a>(alloc: Global, words: &'a [&'a str]) -> Result<Options, Error>
     ensures range { IfOk result InRange }
     ensures words { IfOk result (OptionsOf (matches_of program (map (λ word. word.now) words.now))) }
