@@ -1,4 +1,4 @@
-//! An event's plain numbers, checked: as the edit that it asks for, or as narrower numbers of a read.
+//! The checks of an event's plain numbers, which make the edit that the event asks for, or narrower numbers for a read.
 ghost use Rattle.std.specs.Prelude.{◌≡◌, ◌&&◌, ◌+◌, ℕ, Some, IfOk, OnErr, true, false, Option, option_map};
 ghost use Rattle.tatp_rows.specs.Rows.{between, is_between};
 ghost use Rattle.tatp_rows.specs.declared.ranges.TheConstants.{LAST_SUBSCRIBER};
@@ -19,14 +19,15 @@ use tatp_rows::{
     is_between, is_start_time,
 };
 
-/// Makes a byte of a field: `Field` where it is above 255, which is out of each range.
+/// Makes a byte of a field. It returns `Field` if the value is above 255, which is out of the range of every such
+/// field.
 pub fn byte(value: u64) -> Result<u8, Refusal>
     ensures { result ≡ between 0 255 value }
 {
     u8::try_from(value).map_err(|_| Refusal::Field)
 }
 
-/// Makes a location: `Field` where the value is 0 or above 4,294,967,295.
+/// Makes a location. It returns `Field` if the value is 0 or above 4,294,967,295.
 pub fn location(value: u64) -> Result<NonZeroU32, Refusal>
     ensures ok { IfOk result (λ location. (location.value ≡ value) × (is_between 1 4294967295 value ≡ true)) }
     ensures err { OnErr result ((is_between 1 4294967295 value ≡ false) × (result ≡ Err Refusal.Field)) }
@@ -35,7 +36,7 @@ pub fn location(value: u64) -> Result<NonZeroU32, Refusal>
     NonZeroU32::new(small).ok_or(Refusal::Field)
 }
 
-/// Makes the narrower numbers of GET_NEW_DESTINATION: `Field` where s_id isn't in 1..=16,777,216, sf_type isn't
+/// Makes the narrower numbers of GET_NEW_DESTINATION. It returns `Field` if s_id isn't in 1..=16,777,216, sf_type isn't
 /// in 1..=4, start_time isn't 0, 8 or 16, or end_time isn't in 1..=24.
 pub(crate) fn new_destination(
     s_id: u64,
@@ -55,8 +56,8 @@ pub(crate) fn new_destination(
     Ok((s_id, sf_type, start_time as u8, end_time))
 }
 
-/// Makes the edit of UPDATE_SUBSCRIBER_DATA: `Field` where s_id isn't in 1..=16,777,216, or sf_type, bit_1 or data_a is
-/// above 255. The edit itself looks at narrower ranges.
+/// Makes the edit of UPDATE_SUBSCRIBER_DATA. It returns `Field` if s_id isn't in 1..=16,777,216, or if sf_type, bit_1
+/// or data_a is above 255. The edit itself checks the narrower ranges when it is done.
 pub fn update_subscriber(
     s_id: u64,
     sf_type: u64,
@@ -74,8 +75,8 @@ pub fn update_subscriber(
     })
 }
 
-/// Makes the edit that switches a facility on or off: `Field` where s_id isn't in 1..=16,777,216, or sf_type or
-/// is_active is above 255. The edit itself looks at narrower ranges.
+/// Makes the edit that switches a facility on or off. It returns `Field` if s_id isn't in 1..=16,777,216, or if sf_type
+/// or is_active is above 255. The edit itself checks the narrower ranges when it is done.
 pub fn set_active(s_id: u64, sf_type: u64, is_active: u64) -> Result<SetActive, Refusal>
     ensures action { IfOk result (λ edit. IsRowAction (⟦<SetActive as Edit>⟧.action edit)) }
     ensures asked { IsAskedAlone (action.SetActive s_id sf_type is_active) (action_asked ⟦<SetActive as Edit>⟧.action result) }
@@ -87,8 +88,8 @@ pub fn set_active(s_id: u64, sf_type: u64, is_active: u64) -> Result<SetActive, 
     })
 }
 
-/// Makes the edit of UPDATE_LOCATION for who has the number: `Field` where vlr_location isn't in 1..=4,294,967,295,
-/// then `NoNumber` where nobody has it.
+/// Makes the edit of UPDATE_LOCATION for the subscriber who has the number. Its refusals, in order, are `Field` if
+/// vlr_location isn't in 1..=4,294,967,295, and `NoNumber` if nobody has it.
 pub(crate) fn update_location(
     bearer_id: Option<u32>,
     vlr_location: u64,
@@ -103,8 +104,9 @@ pub(crate) fn update_location(
     Ok(UpdateLocation { s_id, vlr_location })
 }
 
-/// Makes the edit of INSERT_CALL_FORWARDING for who has the number: `Field` where sf_type isn't in 1..=4, start_time
-/// isn't 0, 8 or 16, or end_time isn't in 1..=24, then `NoNumber` where nobody has it.
+/// Makes the edit of INSERT_CALL_FORWARDING for the subscriber who has the number. Its refusals, in order, are `Field`
+/// if sf_type isn't in 1..=4, start_time isn't 0, 8 or 16, or end_time isn't in 1..=24, and `NoNumber` if nobody has
+/// it.
 pub(crate) fn insert_forwarding(
     bearer_id: Option<u32>,
     sf_type: u64,
@@ -119,7 +121,7 @@ pub(crate) fn insert_forwarding(
         (option_map (λ s_id. action.InsertForwarding (record { s_id = s_id; sf_type = sf_type; start_time = start_time; end_time = end_time; numberx = numberx })) bearer_id) (action_asked ⟦<InsertForwarding as Edit>⟧.action result) }
 {
     let Some(s_id) = bearer_id else {
-        // The fields are looked at first, whoever the subscriber would be.
+        // The fields are checked before the number is looked up, so any subscriber will do here.
         Forwarding::try_new(1, sf_type, start_time, end_time, numberx)?;
         return Err(Refusal::NoNumber);
     };
@@ -127,8 +129,8 @@ pub(crate) fn insert_forwarding(
     Ok(InsertForwarding { row })
 }
 
-/// Makes the edit of DELETE_CALL_FORWARDING for who has the number: `Field` where sf_type isn't in 1..=4 or start_time
-/// isn't 0, 8 or 16, then `NoNumber` where nobody has it.
+/// Makes the edit of DELETE_CALL_FORWARDING for the subscriber who has the number. Its refusals, in order, are `Field`
+/// if sf_type isn't in 1..=4 or start_time isn't 0, 8 or 16, and `NoNumber` if nobody has it.
 pub(crate) fn delete_forwarding(
     bearer_id: Option<u32>,
     sf_type: u64,
@@ -152,7 +154,7 @@ pub(crate) fn delete_forwarding(
     })
 }
 
-/// Makes the edit that adds an Access_Info row. It refuses none.
+/// Makes the edit that adds an Access_Info row. It refuses no row.
 pub(crate) fn add_access(row: Access) -> Result<AddAccess, Refusal>
     ensures action { IfOk result (λ edit. IsRowAction (⟦<AddAccess as Edit>⟧.action edit)) }
     ensures asked { IsAsked true (Some (action.AddAccess row)) (action_asked ⟦<AddAccess as Edit>⟧.action result) }
@@ -162,7 +164,7 @@ pub(crate) fn add_access(row: Access) -> Result<AddAccess, Refusal>
     Ok(AddAccess { row })
 }
 
-/// Makes the edit that adds a Special_Facility row. It refuses none.
+/// Makes the edit that adds a Special_Facility row. It refuses no row.
 pub(crate) fn add_facility(row: Facility) -> Result<AddFacility, Refusal>
     ensures action { IfOk result (λ edit. IsRowAction (⟦<AddFacility as Edit>⟧.action edit)) }
     ensures asked { IsAsked true (Some (action.AddFacility row)) (action_asked ⟦<AddFacility as Edit>⟧.action result) }

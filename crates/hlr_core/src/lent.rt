@@ -1,4 +1,4 @@
-//! Holdings of parts that are lent, and come home with what jobs did to them.
+//! The holdings of parts that are lent, and that come home with what jobs did to them.
 ghost use Rattle.std.specs.Prelude.{◌≡◌, ℕ, List, true, false, Some, slice_get, slice_set, slice_index_or};
 ghost use Rattle.std.specs.Arc.{arc_value};
 ghost use Rattle.holding.specs.Held.{IsHolding};
@@ -17,8 +17,8 @@ use std::sync::Arc;
 use view_board::Board;
 
 impl Register {
-    /// Tells the prover that each region has its owner beside it, and that the desks are the board's and share its
-    /// slots. It does nothing.
+    /// Tells the prover that each region and its owner have the same place in their lists, and that the desks belong to
+    /// the board and share its slots. The call does nothing.
     #[inline(always)]
     pub fn rules(&self)
         ensures ruled { AreOwners self.now }
@@ -27,9 +27,10 @@ impl Register {
         self.owners.rules();
     }
 
-    /// Hands the holding of a part out, which is at home: to a thread, where it does the jobs that `Register::route`
-    /// sends to the part. The register is seen as before, with that part as it is now. Such jobs change neither index
-    /// nor regions, and those of different parts may be done in any order, with the same replies. It takes no memory.
+    /// Lends the holding of a part that is home, for example to a thread that does the jobs that `Register::route`
+    /// sends to this part. The register is seen as before, with the part as it is now. Such jobs change neither the
+    /// index nor the regions, and the jobs of different parts may be done in any order, with the same replies. The call
+    /// takes no memory.
     pub fn lend(&mut self, part: u8) -> Box<Holding>
         requires { slice_index_or (homes_in self.old.owners) part false ≡ true }
         ensures lent { IsLent part self.old result.value self.new }
@@ -48,9 +49,9 @@ impl Register {
         self.owners.lend(part)
     }
 
-    /// Takes the holding of a part home that was lent, with what the jobs did that `Register::route` sent to the part:
-    /// its range, its desk's board and slots, and its subscribers with their numbers are as they were. It takes no
-    /// memory.
+    /// Takes a lent holding home, with what was done to it by jobs that `Register::route` sent to its part. Its range,
+    /// the board and the slots of its desk, and its subscribers with their numbers must be as they were. The call takes
+    /// no memory.
     pub fn back(&mut self, holding: Box<Holding>)
         requires { (i : ℕ) × IsBackWith (slice_get self.old.owners i) holding.value }
         ensures { (i : ℕ) → IsBackWith (slice_get self.old.owners i) holding.value
@@ -61,14 +62,14 @@ impl Register {
         self.owners.back(holding);
     }
 
-    /// Tells whether the holding of a part is at home; where there is no such part, it isn't.
+    /// Returns whether the holding of a part is home, and false if there is no such part.
     pub fn at_home(&self, part: u8) -> bool
         ensures { result ≡ slice_index_or (homes_in self.now.owners) part false }
     {
         self.owners.at_home(part)
     }
 
-    /// Gives the board to which the desks of all holdings belong, at home or lent. It takes no memory.
+    /// Returns the board to which the desks of all holdings belong, whether they are home or lent. It takes no memory.
     pub fn board(&self) -> &Arc<Board>
         ensures { arc_value result.now ≡ self.now.spare.board }
     {

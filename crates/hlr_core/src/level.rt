@@ -1,11 +1,11 @@
-//! Whether words are level: in each slot and cell as much was added as taken away.
+//! The test whether words are level, which means that each plus-word of a slot equals its minus-word.
 ghost use Rattle.std.specs.Prelude.{◌<◌, ◌↔◌, IsTrue};
 ghost use Rattle.hlr_owners.specs.Desks.{AreLevel, IsLevel};
 ghost use Rattle.view_board.specs.declared.words.TheConstants.{SLOTS};
 
 use view_board::{CELLS, SLOT_WORDS, SLOTS, WORDS};
 
-/// Whether the words of each slot are level.
+/// Returns whether the words of each slot are level.
 pub(crate) fn are_level(words: &[u64; WORDS]) -> bool
     ensures { IsTrue result ↔ AreLevel words.now }
 {
@@ -17,7 +17,7 @@ pub(crate) fn are_level(words: &[u64; WORDS]) -> bool
     true
 }
 
-/// Whether the plus-words of a slot are its minus-words.
+/// Returns whether the plus-words of a slot are its minus-words.
 fn is_level(words: &[u64; WORDS], slot: u8) -> bool
     requires { slot < SLOTS }
     ensures { IsTrue result ↔ IsLevel words.now slot }

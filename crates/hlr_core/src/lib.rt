@@ -1,7 +1,7 @@
-//! The register: the rows of all parts, the index of numbers and the standing counts, of which each cell as published
-//! plus its deltas not yet posted is that cell counted over the rows now. An event goes down a path or two for each row
-//! that it touches and scans nothing, but for gives and divides, which count the rows that they cut off. A reply of
-//! Memory or Moving says that nothing was done, so who drops it loses the event.
+//! The register: the rows of all parts, the index of numbers, and the live counts. For each cell, what is published and
+//! what is unposted add up to the count over the rows now. An event goes down one or two paths for each row that it
+//! touches, and scans nothing, except that gives and divides count the rows that they cut off. A reply of Memory or
+//! Moving says that the event wasn't done, so a caller who ignores such a reply loses the event.
 #![tactic(auto)]
 
 pub mod checked;
@@ -26,7 +26,7 @@ pub use register::Register;
 pub use route::{Parts, Route, TaskRoute};
 pub use task::Task;
 
-// What the register's calls take and give, so that a caller needs no other crate's name.
+// The types that the calls of a register take and return, so that a caller needs no other crate.
 pub use arrayvec::ArrayVec;
 pub use hlr_owners::{Frame, Scattered};
 pub use holding::{Holding, Job, Piece};

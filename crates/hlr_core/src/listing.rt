@@ -1,5 +1,5 @@
-//! Rows by key and the next subscriber, to be written out: where no piece is loose, these and `lend_access` read all
-//! rows.
+//! Reads of rows by key and of the next subscriber, for callers who write all rows out. With `lend_access` they reach
+//! every row, if no piece is loose.
 ghost use Rattle.std.specs.Prelude.{◌≡◌, List};
 ghost use Rattle.holding.specs.Held.{HoldingState};
 ghost use Rattle.tatp_actions.specs.Book.{first_subscriber};
@@ -16,8 +16,8 @@ use tatp_rows::{
 };
 
 impl Register {
-    /// Returns the Special_Facility row of a subscriber's facility: `Field` where s_id isn't in 1..=16,777,216 or
-    /// sf_type isn't in 1..=4, `Moving`, `NoFacility`. It takes no memory.
+    /// Returns the Special_Facility row of a subscriber's facility. Its refusals, in order, are `Field` if s_id isn't
+    /// in 1..=16,777,216 or sf_type isn't in 1..=4, `Moving`, and `NoFacility`. It takes no memory.
     pub fn facility_data(&self, s_id: u64, sf_type: u64) -> Result<Facility, Refusal>
         requires { IsHomeFor s_id self.now }
         ensures value { result ≡ facility_read s_id sf_type (store_in self.now) }
@@ -28,9 +28,9 @@ impl Register {
         self.owners.facility(s_id, sf_type)
     }
 
-    /// Returns the Call_Forwarding row of a facility that starts at an hour: `Field` where s_id isn't in
-    /// 1..=16,777,216, sf_type isn't in 1..=4 or start_time isn't 0, 8 or 16, `Moving`, `NoForwarding`. It takes no
-    /// memory.
+    /// Returns the Call_Forwarding row of a facility that starts at an hour. Its refusals, in order, are `Field` if
+    /// s_id isn't in 1..=16,777,216, sf_type isn't in 1..=4 or start_time isn't 0, 8 or 16, `Moving`, and
+    /// `NoForwarding`. It takes no memory.
     pub fn forwarding(
         &self,
         s_id: u64,
@@ -49,8 +49,8 @@ impl Register {
         self.owners.forwarding(s_id, sf_type, start_time as u8)
     }
 
-    /// Finds the subscriber who has a number, in the index: the s_id, 1..=16,777,216, or `NoNumber`. It takes no
-    /// memory, and reads no row, so parts may be out.
+    /// Finds in the index the s_id, 1..=16,777,216, of the subscriber who has a number, or returns `NoNumber`. It takes
+    /// no memory, and it reads no row, so parts may be lent.
     pub fn find(&self, sub_nbr: Number) -> Result<u32, Refusal>
         ensures value { result ≡ bearer_answer sub_nbr (store_in self.now) }
         ensures while_out { (holdings : List HoldingState) → AreLater self.now.owners (with_outs self.now.owners holdings) → result ≡ bearer_answer sub_nbr (store_in (register_with self.now holdings)) }
@@ -58,8 +58,8 @@ impl Register {
         self.bearer(sub_nbr).ok_or(Refusal::NoNumber)
     }
 
-    /// Returns the first Subscriber row with an s_id from one on, of a part or of a loose piece, or `None` behind the
-    /// last. It takes no memory.
+    /// Returns the first Subscriber row whose s_id is `from` or higher, in a part or in a loose piece, or `None` if
+    /// there is none. It takes no memory.
     pub fn next_subscriber(&self, from: u64) -> Option<Subscriber>
         requires { AllHome self.now.owners }
         ensures { result ≡ first_subscriber from (book_in self.now.owners).subscribers }

@@ -1,4 +1,5 @@
-//! Answers to up to 16 questions at once: their rows are looked for side by side, so that the waits for memory overlap.
+//! Answers to up to 16 questions at once. Their rows are looked up with overlapping memory accesses, so that the
+//! processor waits for memory less often.
 ghost use Rattle.std.specs.Prelude.{◌≡◌, ◌≤◌, ◌+◌, IsTrue, [], false, length, map, true};
 ghost use Rattle.std.specs.List.{All};
 ghost use Rattle.tatp_rows.specs.Rows.{is_between};
@@ -15,7 +16,7 @@ use crate::register::Register;
 use arrayvec::ArrayVec;
 use tatp_rows::{Access, LAST_SUBSCRIBER, Number, Subscriber, byte_in_range, in_range};
 
-/// Puts the numbers of subscribers into an empty list, and tells whether each is in 1..=16,777,216.
+/// Puts the numbers of subscribers into an empty list, and returns whether each is in 1..=16,777,216.
 fn put_ids(s_ids: &[u64], ids: &mut ArrayVec<u32, 16>) -> bool
     requires few { length s_ids.now ≤ 16 }
     requires empty { ids.old.items ≡ [] }
@@ -31,7 +32,7 @@ fn put_ids(s_ids: &[u64], ids: &mut ArrayVec<u32, 16>) -> bool
     true
 }
 
-/// Puts accesses into an empty list, and tells whether each s_id is in 1..=16,777,216 and each type in 1..=4.
+/// Puts accesses into an empty list, and returns whether each s_id is in 1..=16,777,216 and each type in 1..=4.
 fn put_accesses(asked: &[(u64, u64)], accesses: &mut ArrayVec<(u32, u8), 16>) -> bool
     requires few { length asked.now ≤ 16 }
     requires empty { accesses.old.items ≡ [] }
@@ -51,8 +52,8 @@ fn put_accesses(asked: &[(u64, u64)], accesses: &mut ArrayVec<(u32, u8), 16>) ->
     true
 }
 
-/// Puts calls and their s_ids into empty lists, and tells whether each has its fields in range, as
-/// `Register::destinations` wants them.
+/// Puts calls and their s_ids into empty lists, and returns whether the fields of each one are in the ranges that
+/// `Register::destinations` demands.
 fn put_calls(
     asked: &[(u64, u64, u64, u64)],
     calls: &mut ArrayVec<(u32, u8, u8, u8), 16>,
@@ -88,10 +89,10 @@ fn put_s_ids(accesses: &[(u32, u8)], s_ids: &mut ArrayVec<u32, 16>)
 }
 
 impl Register {
-    /// Does GET_SUBSCRIBER_DATA (TATP, section 3.1) of up to 16 subscribers whose parts are at home, side by side: puts
-    /// the row of each into an empty list, in their order, `None` where there is none, if one part has them all, and
-    /// tells whether one has. Else, and where an s_id isn't in 1..=16,777,216, `lend_subscriber` answers one after
-    /// another.
+    /// Does GET_SUBSCRIBER_DATA (TATP, section 3.1) for up to 16 subscribers whose parts are home, with overlapping
+    /// memory accesses. If one part has all of them, it puts the row of each into an empty list, in their order, with
+    /// `None` for a subscriber without a row, and returns true. Otherwise, and also if an s_id isn't in 1..=16,777,216,
+    /// it returns false, and the caller can ask `lend_subscriber` for one after another.
     pub fn copy_subscribers(
         &self,
         s_ids: &[u64],
@@ -114,8 +115,8 @@ impl Register {
         true
     }
 
-    /// Does GET_ACCESS_DATA (TATP, section 3.3) of up to 16 accesses of subscribers whose parts are at home, each asked
-    /// by its s_id and ai_type, as `copy_subscribers`.
+    /// Does GET_ACCESS_DATA (TATP, section 3.3) for up to 16 accesses of subscribers whose parts are home, each asked
+    /// for by its s_id and ai_type, in the same way as `copy_subscribers`.
     pub fn copy_access(&self, asked: &[(u64, u64)], rows: &mut ArrayVec<Option<Access>, 16>) -> bool
         requires few { length asked.now ≤ 16 }
         requires empty { rows.old.items ≡ [] }
@@ -136,9 +137,9 @@ impl Register {
         true
     }
 
-    /// Does GET_NEW_DESTINATION (TATP, section 3.2) of up to 16 calls of subscribers whose parts are at home, each
-    /// asked by its s_id, sf_type, start_time and end_time, as `copy_subscribers`: the numbers to which each is
-    /// forwarded, if any.
+    /// Does GET_NEW_DESTINATION (TATP, section 3.2) for up to 16 calls to subscribers whose parts are home, in the same
+    /// way as `copy_subscribers`. Each is asked for by its s_id, sf_type, start_time and end_time, and the list gets
+    /// the numbers to which it is forwarded, if there are any.
     pub fn copy_destinations(
         &self,
         asked: &[(u64, u64, u64, u64)],

@@ -1,4 +1,4 @@
-//! The index of the numbers of all rows that are brought home.
+//! The index of numbers, built from all rows that `gather` takes.
 ghost use Rattle.std.specs.Prelude.{◌≡◌, ◌⊎◌, List, OnOk, IfOk, IfErr, option_copied};
 ghost use Rattle.tatp_rows.specs.Keys.{subscriber_key};
 ghost use Rattle.tatp_rows.specs.Ordered.{IsOrderedBy};
@@ -14,11 +14,11 @@ use number_index::NumberIndex;
 use std::alloc::Global;
 use tatp_rows::{Refusal, Subscriber};
 
-/// What has Subscriber rows: a part's holding, or a loose piece.
+/// An owner that has Subscriber rows: a holding, or a loose piece.
 trait HasSubscribers {
     ghost rows_of: { Self → List SubscriberRow };
 
-    /// Gives the first Subscriber row from a subscriber on.
+    /// Returns the first Subscriber row whose s_id is this one or higher.
     fn first_row(&self, s_id: u64) -> Option<&Subscriber>
         ensures value { option_copied result ≡ first_subscriber s_id (rows_of self.now) }
         ensures ordered { IsOrderedBy subscriber_key (rows_of self.now) };
@@ -42,8 +42,8 @@ impl HasSubscribers for Piece {
     }
 }
 
-/// Puts the numbers of an owner's rows into the index. `NumberTaken` where one is there already, `Memory` where the
-/// index can't grow.
+/// Puts the numbers of an owner's rows into the index. Its refusals, in order, are `NumberTaken` if a number is there
+/// already, and `Memory` if the index can't grow.
 fn add_numbers_of<O: HasSubscribers>(index: &mut NumberIndex, owner: &O) -> Result<(), Refusal>
     ensures ok { OnOk result (AreNoted (O.rows_of owner.now) index.old index.new) }
     ensures err { IfErr result (λ why. ((why ≡ Refusal.NumberTaken) × HasTwin (O.rows_of owner.now) index.old) ⊎ (why ≡ Refusal.Memory)) }
@@ -56,7 +56,7 @@ fn add_numbers_of<O: HasSubscribers>(index: &mut NumberIndex, owner: &O) -> Resu
     Ok(())
 }
 
-/// The same of each owner in a list.
+/// Puts the numbers of all rows of the owners in a list into the index, in the same way.
 fn add_numbers_of_all<O: HasSubscribers>(
     index: &mut NumberIndex,
     owners: &[Box<O>],
@@ -70,8 +70,8 @@ fn add_numbers_of_all<O: HasSubscribers>(
     Ok(())
 }
 
-/// Makes the index of the numbers of all rows: `NumberTaken` where a number stands twice, `Memory` where a growth was
-/// refused.
+/// Makes the index of the numbers of all rows. Its refusals, in order, are `NumberTaken` if two rows have the same
+/// number, and `Memory` if the system refuses memory.
 pub(crate) fn index_of(alloc: Global, scattered: &Scattered) -> Result<NumberIndex, Refusal>
     ensures ok { IfOk result (IsIndexed scattered.now) }
     ensures err { IfErr result (λ why. ((why ≡ Refusal.NumberTaken) × HasTwins scattered.now) ⊎ (why ≡ Refusal.Memory)) }

@@ -1,4 +1,4 @@
-//! The register: all rows under one roof, no number twice, and every cell as published with what is not posted yet.
+//! The register: all rows, with no number given twice, and the published and unposted count of every cell.
 ghost use Rattle.std.specs.Prelude.{◌≡◌, ℕ, [], vec_len, vec_capacity, ◌<◌, ◌↔◌, ◌⊎◌, true, None, IsTrue, IfOk, IfErr, OnErr, MatchResult, slice_index, slice_index_or, ◌+◌, ◌-◌, ℤ, pos, ◌+ℤ◌};
 ghost use Rattle.view_board.specs.Desks.{with_view};
 ghost use Rattle.view_board.specs.Views.{looked};
@@ -40,13 +40,13 @@ use tatp_actions::{CELLS, Cells, RowReply};
 use tatp_rows::{Access, Back, Number, Refusal, Subscriber};
 use view_board::{Sight, WORDS};
 
-/// A home location register, seen as its regions with the owner of each: a part's holding, which is at home
-/// or lent, or a loose piece. What they have together is the store of the definitions (`store_in`): the rows, the
-/// regions, the words of the board, what was seen of them, the slots of each part and the width of the zones. Of a part
-/// that is lent the register knows what it had then.
+/// A home location register, seen as its regions with the owner of each one: the holding of a part, which is home or
+/// lent, or a loose piece. Together they make up the store of the definitions (`store_in`): the rows, the regions, the
+/// words of the board, what was seen of them, the slots of each part, and the zone width. Of a lent part, the register
+/// knows what it was when it was lent.
 ///
-/// Each event moves the store by one right step, and after it every cell as published plus its delta not posted yet
-/// is that cell counted over the rows.
+/// Each event moves the store by one right step. After it, what is published and what is unposted of each cell add up
+/// to the count over the rows.
 #[derive(Drop)]
 pub struct Register {
     pub(crate) owners: Owners,
@@ -111,8 +111,8 @@ pub(crate) fn edited_reply(done: Result<(), Refusal>) -> Reply
 
 impl Register {
     /// Opens an empty register whose words are all 0, with so many parts that share out the zones of `width`
-    /// subscribers each. `Field` where parts isn't in 1..=16 or the width isn't in 1..=524,288; `Memory` where a growth
-    /// was refused.
+    /// subscribers each. Its refusals, in order, are `Field` if parts isn't in 1..=16 or the width isn't in
+    /// 1..=524,288, and `Memory` if the system refuses memory.
     #[inline(never)]
     pub fn open(alloc: Global, parts: u8, width: u32) -> Result<Register, Refusal>
         ensures ok { IfOk result (λ register. store_in register ≡ opening parts width) }
@@ -123,9 +123,9 @@ impl Register {
         Register::open_from(alloc, parts, width, &[0; WORDS])
     }
 
-    /// Opens it over words that stand already, in each slot and cell as much up as down, since of no rows nothing is
-    /// published. `Field` also where a slot's plus-word of a cell differs from its minus-word, or a word passes
-    /// `LIMIT`.
+    /// Opens an empty register over words that exist already. In each slot and cell the plus-word must equal the
+    /// minus-word, because nothing is published of a register without rows. It returns `Field` also if two such words
+    /// differ, or if a word passes `LIMIT`.
     pub fn open_from(
         alloc: Global,
         parts: u8,
@@ -154,9 +154,9 @@ impl Register {
         })
     }
 
-    /// Takes the register apart: its holdings by the number of their part, its loose pieces in the order of their
-    /// ranges, and the frame. The index goes. It takes no memory. `gather` gives the register back, with its loose
-    /// pieces numbered from 1 in the order of their ranges, and can be refused for want of memory alone.
+    /// Takes the register apart, into its holdings by the numbers of their parts, its loose pieces in the order of
+    /// their ranges, and the frame. The index is dropped. `gather` makes the register again, with its loose pieces
+    /// numbered from 1 in the order of their ranges, and can only be refused with `Memory`. The call takes no memory.
     pub fn scatter(self) -> Scattered
         requires { AllHome self.owners }
         ensures store { store_by self.regions result ≡ store_in self }
@@ -173,15 +173,16 @@ impl Register {
         owners.scatter()
     }
 
-    /// Makes a register of parts, loose pieces and a frame, whatever was done to them: the regions are their ranges,
-    /// numbered in key order, and the index is that of their rows. No row is counted. All desks, the frame's too, are
-    /// to be the frame's board's and to have each slot once, each holding's one, and each slot of the frame's desk is
-    /// to have published a net of 0 of each cell.
+    /// Makes a register of holdings, loose pieces and a frame, no matter what was done to them since they were taken
+    /// apart. The regions are their ranges, numbered in the order of keys, and the index is made of their rows. No row
+    /// is counted. All desks, including the frame's, must belong to the frame's board, and each slot must have exactly
+    /// one of these desks. Each holding's desk must have one slot, and each slot of the frame's desk must have a net of
+    /// 0 for every cell.
     ///
-    /// `NoPart` where there is no holding or more than 16, `ManyPieces` where there are more than 16 pieces, `Field`
-    /// where a width of zones isn't the frame's, `NotAdjacent` where the ranges leave a gap or overlap, `NumberTaken`
-    /// where two rows have one number, `Memory` where a growth was refused, before or after that: each hands all back
-    /// as it came.
+    /// Its refusals, in order, are `NoPart` if there is no holding or more than 16, `ManyPieces` if there are more than
+    /// 16 pieces, `Field` if a zone width differs from the frame's, `NotAdjacent` if the ranges leave a gap or overlap,
+    /// `NumberTaken` if two rows have the same number, and `Memory` if the system refuses memory, which can also come
+    /// before the others. Each refusal hands everything back as it came.
     pub fn gather(alloc: Global, scattered: Scattered) -> Result<Register, Back<Scattered>>
         requires { MayBeGathered scattered }
         ensures gathered { IfOk result (λ register. (misfit_of scattered ≡ None)
@@ -205,8 +206,8 @@ impl Register {
         }
     }
 
-    /// Applies an event, and replies to it. A refusal changes nothing; after `Worn` the cells posted before stand. It
-    /// is right whatever jobs have done to the holdings that are out.
+    /// Applies an event, and returns the reply. A refusal changes nothing, except that after `Worn` the cells that were
+    /// posted before stay posted. The reply is right regardless of what jobs have done to the lent holdings.
     pub fn apply(&mut self, event: Event) -> Reply
         requires { IsHomeTo event self.old }
         ensures { IsRegisterStep event self.old result self.new }
@@ -237,7 +238,7 @@ impl Register {
         }
     }
 
-    /// Does what an event asks for that changes rows.
+    /// Does the change of rows that an event asks for.
     fn change(&mut self, event: Event) -> Result<(), Refusal>
         requires rows { ChangesRows event }
         requires home { IsHomeTo event self.old }
@@ -280,12 +281,12 @@ impl Register {
         }
     }
 
-    /// Carries orders out one after another, each an event or a re-cut, and gives their answers in order. `Memory`
-    /// where the list of answers could not be reserved: then no order was carried out.
+    /// Carries orders out one after another, each an event or a recut, and returns their answers in order. It returns
+    /// `Memory` if there is no memory for the list of answers, and then no order was carried out.
     ///
-    /// Gives, takes and re-cuts, and parts that come and go, change no reply but `Moving`: begun where no piece is
-    /// loose, the list without them, without postings and without what was answered `Moving` or `Memory` has the same
-    /// answers, and leaves the same rows.
+    /// Gives, takes and recuts, and parts that come and go, change no reply except to `Moving`. Take the list without
+    /// these, without postings, and without the orders that were answered with `Moving` or `Memory`: if no piece is
+    /// loose at the beginning, it has the same answers and leaves the same rows.
     pub fn apply_all(&mut self, orders: &[Order]) -> Result<Vec<Answer>, Refusal>
         requires { AllHome self.old.owners }
         ensures ok { IfOk result (λ answers. IsRun orders.now (store_in self.old) answers.items (store_in self.new)) }
@@ -317,7 +318,7 @@ impl Register {
         }
     }
 
-    /// Gives the cells as published: for each, the sum of its plus-words less the sum of its minus-words.
+    /// Returns the cells as published: for each, the sum of its plus-words less the sum of its minus-words.
     pub fn published(&self) -> [i64; CELLS as usize]
         requires { AllHome self.now.owners }
         ensures { (c : ℕ) → c < CELLS → slice_index_or result c (pos 0) ≡ published (store_in self.now) c }
@@ -325,8 +326,9 @@ impl Register {
         self.owners.published()
     }
 
-    /// Gives a sight of the board's words: those of slots that no part has as they are, each other one at least what
-    /// was seen of it before, at first its word at opening, and none past `LIMIT`. It takes no memory.
+    /// Looks at the board, and returns a sight of its words. The words of slots that no part has are exact. Each other
+    /// word is at least what was seen of it before, or what it was at opening, and none passes `LIMIT`. It takes no
+    /// memory.
     pub fn look(&mut self) -> Sight
         ensures right { IsSightOf (store_in self.old) result.words }
         ensures seen { store_in self.new ≡ record (store_in self.old) { sight = result.words } }
@@ -335,7 +337,7 @@ impl Register {
         self.owners.look()
     }
 
-    /// Looks as `look` does, into a sight that the caller has: its 18 KB aren't moved.
+    /// Looks as `look` does, into a sight of the caller's, so that its 18 KB needn't be moved.
     pub fn look_into(&mut self, sight: &mut Sight)
         ensures right { IsSightOf (store_in self.old) sight.new.words }
         ensures seen { store_in self.new ≡ record (store_in self.old) { sight = sight.new.words } }
@@ -344,8 +346,8 @@ impl Register {
         self.owners.look_into(sight);
     }
 
-    /// Gives what is not posted yet of each cell, which is what the owners keep as pending, added up: with what is
-    /// published, it is the cell counted over the rows now.
+    /// Returns what is unposted of each cell, which is the sum of what the owners keep as pending. Added to what is
+    /// published, it is the count over the rows now.
     pub fn unposted(&self) -> [i64; CELLS as usize]
         requires { AllHome self.now.owners }
         ensures pending { (c : ℕ) → c < CELLS → slice_index_or result c (pos 0) ≡ unposted self.now.owners c }
@@ -364,14 +366,14 @@ impl Register {
         self.owners.recount()
     }
 
-    /// Tells whether all parts are at home, as the counts, the proposal and `scatter` want it.
+    /// Returns whether all parts are home, which the counts, the proposal and `scatter` need.
     pub fn all_at_home(&self) -> bool
         ensures { IsTrue result ↔ AllHome self.now.owners }
     {
         self.owners.all_at_home()
     }
 
-    /// Gives the regions of all subscribers, each of a part or of a loose piece.
+    /// Returns the regions of all subscribers, each of a part or of a loose piece.
     pub fn regions(&self) -> &Regions
         ensures value { result.now ≡ self.now.regions }
         ensures regions { AreRegions result.now }
@@ -379,8 +381,8 @@ impl Register {
         self.owners.regions()
     }
 
-    /// Proposes the bounds between zones that would give each part about its share of the rows, by what is published of
-    /// the zones; where nothing is unposted, these are the counts of the rows. It takes no memory.
+    /// Proposes bounds between zones by which each part would have about its share of the rows. It goes by what is
+    /// published of the zones, which is the count of their rows if nothing is unposted. It takes no memory.
     pub fn propose(&self) -> Bounds
         requires { AllHome self.now.owners }
         ensures value { result ≡ proposal (published_weights (store_in self.now)) (parts_in (store_in self.now)) self.now.width }
@@ -393,11 +395,11 @@ impl Register {
         Regions::propose(&weights, parts, self.owners.width())
     }
 
-    /// Moves the bounds between parts to these: each that differs by a give and a take. The answer is how many were
-    /// moved. `Field` where the bounds aren't strictly rising ones in 2..=16,777,216, one less than there are parts;
-    /// then `Moving` where a piece is loose; then `Memory`, after which the moves that were done stand, and where a
-    /// take was refused its piece is loose. No row, no word and no pair of the index changes, whatever jobs have done
-    /// to the holdings that are out.
+    /// Moves the bounds between the parts to these, with a give and a take for each bound that moves, and returns how
+    /// many it moved. Its refusals, in order, are `Field` if the bounds don't rise strictly in 2..=16,777,216 or aren't
+    /// one less than there are parts, `Moving` if a piece is loose, and `Memory`. After `Memory`, the moves that were
+    /// done stay done, and if a take was refused its piece is loose. No row, no word and no pair of the index changes,
+    /// regardless of what jobs have done to the lent holdings.
     pub fn recut_to(&mut self, bounds: &[u64]) -> Result<u8, Refusal>
         requires { IsHomeToCut bounds.now self.old }
         ensures { IsRegisterRecut bounds.now self.old result self.new }
@@ -405,15 +407,15 @@ impl Register {
         self.owners.recut_to(bounds)
     }
 
-    /// Gives the index of numbers: for each Subscriber row the pair of its number and its s_id.
+    /// Returns the index of numbers, which has the number and the s_id of each Subscriber row.
     pub fn index(&self) -> &NumberIndex
         ensures { result.now ≡ index_of (book_in self.now.owners).subscribers }
     {
         &self.index
     }
 
-    /// Posts at most `limit` cells of a part, as `Event::Post`, and replies how many: `NoPart`, or `Worn`, after which
-    /// the cells before stay posted.
+    /// Posts at most `limit` cells of a part, as `Event::Post` does, and returns how many it posted. Its refusals, in
+    /// order, are `NoPart` and `Worn`, after which the cells that were posted before stay posted.
     pub fn post(&mut self, part: u64, limit: u64) -> Reply
         requires { IsPartHome part self.old }
         ensures { IsRegisterStep (Event.Post part limit) self.old result self.new }
@@ -470,7 +472,8 @@ impl Register {
     }
 }
 
-/// All that a register needs besides what is handed in, or why it makes none. Nothing is moved yet.
+/// Makes everything that a register needs in addition to what is handed in, or returns why that is refused. Nothing is
+/// moved yet.
 fn prepare(alloc: Global, scattered: &Scattered) -> Result<(Prepared, NumberIndex), Refusal>
     ensures surveyed { IfOk result (λ both. IsSurveyed scattered.now both.0) }
     ensures indexed { IfOk result (λ both. IsIndexed scattered.now both.1) }
@@ -481,7 +484,7 @@ fn prepare(alloc: Global, scattered: &Scattered) -> Result<(Prepared, NumberInde
     Ok((prepared, index))
 }
 
-/// An empty list with room for so many answers; `Memory` where a growth was refused.
+/// Makes an empty list with room for so many answers, or returns `Memory`.
 fn reserve(alloc: Global, count: usize) -> Result<Vec<Answer>, Refusal>
     ensures ok { IfOk result (λ answers. (answers.items ≡ []) × (vec_len answers ≡ 0) × (vec_capacity answers ≡ count)) }
     ensures err { OnErr result (result ≡ Err Refusal.Memory) }

@@ -1,5 +1,5 @@
-//! Where an event goes: what is known of its reply at once, what a part's holding does wherever it is, and what the
-//! register itself does.
+//! Decides where an event goes while parts are lent: some replies are known at once, some events are done by the
+//! holding of a part, wherever that is, and the others by the register itself.
 ghost use Rattle.std.specs.Prelude.{◌≡◌, ◌↔◌, ◌≤◌, Result, true, false, length};
 ghost use Rattle.hlr_core.specs.Home.{AreHome, IsBearerHome, WorksOn, is_by_number};
 ghost use Rattle.hlr_core.specs.Inside.Routed.{IsTaskFor, makes_change};
@@ -22,29 +22,31 @@ use holding::Job;
 use part_table::Place;
 use tatp_rows::{LAST_SUBSCRIBER, Number, Refusal, in_range};
 
-/// Where an event goes.
+/// The way of an event.
 #[derive(Debug, PartialEq, Eq, Drop)]
 pub enum Route {
-    /// It is answered so, and changes nothing.
+    /// The reply is known at once, and the event changes nothing.
     Now(Reply),
-    /// To the holding of a part, as this job.
+    /// The holding of this part does the event, as this job.
     To(u8, Job),
-    /// To the register itself: it gives a number, moves regions, or has a part come or go.
+    /// The register itself does the event, which gives a number to a subscriber, moves regions, or makes or dissolves a
+    /// part.
     Here,
 }
 
-/// Where an event goes, with a task in place of a job, in few bytes.
+/// The way of an event, with a task in place of a job, so that it takes few bytes.
 #[derive(Clone, Copy, Debug, PartialEq, Eq)]
 pub enum TaskRoute {
-    /// It is refused so, and changes nothing.
+    /// The event is refused at once, and changes nothing.
     Refused(Refusal),
-    /// To the holding of a part, as this task.
+    /// The holding of this part does the event, as this task.
     To(u8, Task),
-    /// To the register itself: it gives a number, moves regions, or has a part come or go.
+    /// The register itself does the event, which gives a number to a subscriber, moves regions, or makes or dissolves a
+    /// part.
     Here,
 }
 
-/// Some parts, one behind another: those with the numbers `first..end`, and none where `end` isn't above `first`.
+/// A row of parts: those with the numbers `first..end`, or none if `end` isn't above `first`.
 #[derive(Clone, Copy, Debug, PartialEq, Eq)]
 pub struct Parts {
     /// The first of them.
@@ -72,10 +74,10 @@ impl TaskRoute {
 }
 
 impl Register {
-    /// Tells which parts an event works on, which are those that `apply` wants at home, whichever are out: the part of
-    /// its subscriber, the part that posts, gives or takes, or the part that is divided, or stands in front of one that
-    /// is dissolved, and all behind it. None where the s_id is out of range, nobody has the number, a loose piece has
-    /// the subscriber, or no part has a number from there on. It takes no memory.
+    /// Returns the parts on which an event works, and which `apply` needs home, no matter which parts are lent: the
+    /// part of its subscriber; the part that posts, gives or takes; or the part that is divided, or that lies in front
+    /// of one that is dissolved, and all parts behind it. There is no such part if the s_id is out of range, nobody has
+    /// the number, a loose piece has the subscriber, or no part has this number or a higher one. It takes no memory.
     pub fn parts_for(&self, event: &Event) -> Parts
         ensures now { WorksOn event.now result self.now }
         ensures same { (h : OwnersState) → AreOwners h → h.regions ≡ self.now.regions → (book_in h.owners).subscribers ≡ (book_in self.now.owners).subscribers → WorksOn event.now result h }
@@ -105,7 +107,7 @@ impl Register {
         }
     }
 
-    /// The part with a number, if there is one.
+    /// Returns the part with this number, if there is one.
     fn part_numbered(&self, part: u64) -> Parts
         ensures home { (h : OwnersState) → AreOwners h → h.regions ≡ self.now.regions → AreHome result h ↔ IsPartHome part h }
         ensures few { result.end ≤ length (parts_of self.now.regions) }
@@ -119,7 +121,7 @@ impl Register {
         }
     }
 
-    /// All parts from one on.
+    /// Returns the parts with this number and higher ones.
     fn parts_from(&self, part: u64) -> Parts
         ensures home { (h : OwnersState) → AreOwners h → h.regions ≡ self.now.regions → AreHome result h ↔ IsHomeFrom part h }
         ensures few { result.end ≤ length (parts_of self.now.regions) }
@@ -134,7 +136,8 @@ impl Register {
         }
     }
 
-    /// The part that has a subscriber, unless a loose piece has them, or nobody can have the s_id.
+    /// Returns the part that has a subscriber. There is none if a loose piece has the subscriber, or if the s_id is out
+    /// of range.
     fn part_of(&self, s_id: u64) -> Parts
         ensures home { (h : OwnersState) → AreOwners h → h.regions ≡ self.now.regions → AreHome result h ↔ IsHomeFor s_id h }
         ensures few { result.end ≤ length (parts_of self.now.regions) }
@@ -148,7 +151,7 @@ impl Register {
         }
     }
 
-    /// The part that has the subscriber with a number, if there is one.
+    /// Returns the part that has the subscriber with a number, if there is one.
     fn part_of_bearer(&self, sub_nbr: Number) -> Parts
         ensures home { (h : OwnersState) → AreOwners h → h.regions ≡ self.now.regions → (book_in h.owners).subscribers ≡ (book_in self.now.owners).subscribers → AreHome result h ↔ IsBearerHome sub_nbr h }
         ensures few { result.end ≤ length (parts_of self.now.regions) }
@@ -160,15 +163,17 @@ impl Register {
         }
     }
 
-    /// Tells where an event goes. What is answered at once is right, and changes nothing, whatever the parts' holdings
-    /// do meanwhile; a job that goes to a part is right whatever the others do. It takes no memory, wherever they are.
+    /// Returns where an event goes. A reply that is known at once is right, and changes nothing, regardless of what the
+    /// holdings of the parts do meanwhile. A job that goes to a part is right regardless of what the other parts do. It
+    /// takes no memory, no matter which parts are lent.
     pub fn route(&self, event: &Event) -> Route
         ensures { IsRouted event.now self.now result }
     {
         self.route_task(event).to_route()
     }
 
-    /// Tells it with a task in place of the job, which has no room for a whole row of a subscriber.
+    /// Returns where an event goes, as `route` does, with a task in place of the job. A task has no room for a whole
+    /// Subscriber row.
     pub fn route_task(&self, event: &Event) -> TaskRoute
         ensures { IsRouted event.now self.now (route_of result) }
     {
@@ -189,8 +194,8 @@ impl Register {
         }
     }
 
-    /// Where an event goes that changes rows, regions or parts: to the part whose rows it changes alone, and any other
-    /// one to the register itself.
+    /// Returns where an event goes that changes rows, regions or parts: to a part if it changes the rows of that part
+    /// alone, and otherwise to the register itself.
     fn route_change(&self, event: &Event) -> TaskRoute
         requires { makes_change event.now ≡ true }
         ensures { IsRouted event.now self.now (route_of result) }
@@ -217,8 +222,8 @@ impl Register {
         }
     }
 
-    /// Where an event goes that names its subscriber by a number: to the part that has them, and refused where nobody
-    /// has the number or a loose piece has them.
+    /// Returns where an event goes that names its subscriber by a number: to the part that has the subscriber. It is
+    /// refused if nobody has the number, or if a loose piece has the subscriber.
     fn route_by_number(&self, event: Event) -> TaskRoute
         requires { is_by_number event ≡ true }
         ensures { IsRouted event self.now (route_of result) }
@@ -248,12 +253,12 @@ impl Register {
                 let s_id = self.bearer(sub_nbr);
                 self.route_asked(tasks::delete_forwarding(s_id, sf_type, start_time))
             }
-            // No other event tells its subscriber by a number.
+            // No other event names its subscriber by a number.
             _ => unreachable!(),
         }
     }
 
-    /// A posting goes to its part, if there is such a part.
+    /// Sends a posting to its part, if there is such a part.
     fn route_post(&self, part: u64, limit: u64) -> TaskRoute
         ensures { IsRouted (event.Post part limit) self.now (route_of result) }
     {
@@ -264,7 +269,7 @@ impl Register {
         TaskRoute::To(part as u8, Task::Post(limit))
     }
 
-    /// What an event asks for goes to the part that has its subscriber, and is refused where a loose piece has them.
+    /// Sends a task to the part that has its subscriber, or refuses it if a loose piece has the subscriber.
     fn route_asked(&self, asked: Result<Task, Refusal>) -> TaskRoute
         requires { (wanted : Result Actions Refusals) × IsTaskFor wanted asked }
         ensures { (event : Events) → is_on_rows event ≡ true → is_here event ≡ false → IsTaskFor (action_for event (book_in self.now.owners)) asked → IsRouted event self.now (route_of result) }

@@ -1,4 +1,4 @@
-//! What the holding of a part is asked to do, in few bytes.
+//! The tasks of a part's holding, in few bytes.
 ghost use Rattle.std.specs.Prelude.{◌≡◌, true, Result};
 ghost use Rattle.holding.specs.declared.job.Job.TheVariants as job;
 ghost use Rattle.tatp_actions.specs.Action.{s_id_of};
@@ -22,8 +22,8 @@ use tatp_actions::{Action, Edit, RowReply};
 use tatp_rows::{Refusal, is_between, is_start_time};
 use view_board::Board;
 
-/// What the holding of a part is asked to do: an action that gives no number, or a posting. It takes 24 bytes, and a
-/// `Job`, which has room for a Subscriber row, 72.
+/// A task for the holding of a part: an action that gives no number to a subscriber, or a posting. It takes 24 bytes,
+/// while a `Job`, which has room for a Subscriber row, takes 72.
 #[derive(Clone, Copy, Debug, PartialEq, Eq)]
 pub enum Task {
     /// GET_SUBSCRIBER_DATA (TATP, section 3.1): reads the row.
@@ -56,7 +56,7 @@ pub enum Task {
     UpdateLocation(UpdateLocation),
     /// The body of INSERT_CALL_FORWARDING (TATP, section 3.6): adds a Call_Forwarding row.
     InsertForwarding(InsertForwarding),
-    /// The body of DELETE_CALL_FORWARDING (TATP, section 3.7): takes a Call_Forwarding row away.
+    /// The body of DELETE_CALL_FORWARDING (TATP, section 3.7): removes a Call_Forwarding row.
     DeleteForwarding(DeleteForwarding),
     /// Adds an Access_Info row.
     AddAccess(AddAccess),
@@ -70,7 +70,7 @@ pub enum Task {
 
 const _: () = prove!(size_of::<Task>() == 24);
 
-/// What a read answers of the Subscriber row of one of the holding's subscribers.
+/// Makes the reply to a read of the Subscriber row of one of the holding's subscribers.
 fn read_subscriber(holding: &Holding, s_id: u32) -> Reply
     requires { IsWithin holding.now.part.lo holding.now.part.hi s_id }
     ensures { IsActed (action.SubscriberData s_id) holding.now result holding.now }
@@ -79,7 +79,7 @@ fn read_subscriber(holding: &Holding, s_id: u32) -> Reply
     row_reply(holding.lend_subscriber(s_id).ok_or(Refusal::NoSubscriber))
 }
 
-/// The same of a subscriber's access: `Field` where ai_type isn't in 1..=4.
+/// Makes the reply to a read of an access of such a subscriber. It is refused with `Field` if ai_type isn't in 1..=4.
 fn read_access(holding: &Holding, s_id: u32, ai_type: u8) -> Reply
     requires { IsWithin holding.now.part.lo holding.now.part.hi s_id }
     ensures { IsActed (action.AccessData s_id ai_type) holding.now result holding.now }
@@ -91,8 +91,8 @@ fn read_access(holding: &Holding, s_id: u32, ai_type: u8) -> Reply
     access_reply(holding.lend_access(s_id, ai_type).ok_or(Refusal::NoAccess))
 }
 
-/// The same of the numbers to which a subscriber's facility forwards a call: `Field` where sf_type isn't in 1..=4, or
-/// of the hours start_time isn't 0, 8 or 16 or end_time isn't in 1..=24.
+/// Makes the reply to a read of the numbers to which a facility of such a subscriber forwards a call. It is refused
+/// with `Field` if sf_type isn't in 1..=4, start_time isn't 0, 8 or 16, or end_time isn't in 1..=24.
 fn read_destinations(
     holding: &Holding,
     s_id: u32,
@@ -117,7 +117,7 @@ fn read_destinations(
     Reply::Rows(RowReply::Numbers(numbers))
 }
 
-/// What an edit of the holding's rows answers.
+/// Does an edit of the holding's rows, and makes the reply to it.
 fn edited<E: Edit>(holding: &mut Holding, edit: E) -> Reply
     requires { IsWithin holding.old.part.lo holding.old.part.hi (s_id_of (E.action edit)) }
     ensures { IsActed (E.action edit) holding.old result holding.new }
@@ -126,7 +126,7 @@ fn edited<E: Edit>(holding: &mut Holding, edit: E) -> Reply
 }
 
 impl Task {
-    /// Makes the job that it is.
+    /// Makes the job that this task is.
     pub fn to_job(&self) -> Job
         ensures { result ≡ job_of self.now }
     {
@@ -188,12 +188,12 @@ impl Task {
                 sf_type: edit.sf_type,
                 is_active: edit.is_active,
             },
-            // No other task is such a command.
+            // No other task is an administrative command.
             _ => unreachable!(),
         }
     }
 
-    /// Gives the subscriber whose rows an action is on.
+    /// Returns the subscriber whose rows an action is on.
     pub(crate) fn s_id(&self) -> u32
         requires { (wanted : Result Actions Refusals) × AsksFor wanted (job_of self.now) }
         ensures { IsOn result (job_of self.now) }
@@ -213,9 +213,9 @@ impl Task {
         }
     }
 
-    /// Has a holding do it, as the job that it is, and replies to it. `Field` comes first, where a field is out of its
-    /// range, then the refusals of the rows; `Memory` comes only where a row is added, and `Worn` from a posting. After
-    /// another refusal than `Worn` the holding is as before.
+    /// Has a holding do the task, as the job that it is, and returns the reply. Its refusals, in order, are `Field` if
+    /// a field is out of its range, and then those of the rows, where `Memory` comes only if a row is added; a posting
+    /// may return `Worn`. After any refusal except `Worn` the holding is as before.
     pub fn carry_out(self, holding: &mut Holding, board: &Board) -> Reply
         requires board { holding.old.desk.board ≡ board.now }
         requires within { IsWithinJob holding.old (job_of self) }
@@ -235,7 +235,7 @@ impl Task {
         }
     }
 
-    /// The same of a task that changes rows.
+    /// Has a holding do a task that changes rows.
     fn change(self, holding: &mut Holding) -> Reply
         requires rows { changes_rows self ≡ true }
         requires within { IsWithinJob holding.old (job_of self) }
@@ -250,7 +250,7 @@ impl Task {
         }
     }
 
-    /// The same of a task that is an administrative command.
+    /// Has a holding do a task that is an administrative command.
     fn administer(self, holding: &mut Holding) -> Reply
         requires rows { administers self ≡ true }
         requires within { IsWithinJob holding.old (job_of self) }
@@ -260,7 +260,7 @@ impl Task {
             Task::AddAccess(edit) => edited(holding, edit),
             Task::AddFacility(edit) => edited(holding, edit),
             Task::SetActive(edit) => edited(holding, edit),
-            // No other task is such a command.
+            // No other task is an administrative command.
             _ => unreachable!(),
         }
     }

@@ -1,4 +1,4 @@
-//! What an event asks the holding of a part for: its plain numbers, checked, as a task.
+//! The tasks that events ask a part's holding for, made of the events' plain numbers, which are checked here.
 ghost use Rattle.std.specs.Prelude.{◌≡◌, ◌&&◌, ◌+◌, ℕ, Ok, Some, option_map};
 ghost use Rattle.tatp_rows.specs.Rows.{is_between};
 ghost use Rattle.tatp_rows.specs.declared.ranges.TheConstants.{LAST_SUBSCRIBER};
@@ -14,7 +14,7 @@ use tatp_rows::{
     Access, Facility, LAST_SUBSCRIBER, Number, Refusal, byte_in_range, in_range, is_between,
 };
 
-/// Makes the task of GET_SUBSCRIBER_DATA: `Field` where s_id isn't in 1..=16,777,216.
+/// Makes the task of GET_SUBSCRIBER_DATA. It returns `Field` if s_id isn't in 1..=16,777,216.
 pub(crate) fn subscriber_data(s_id: u64) -> Result<Task, Refusal>
     ensures { IsTaskFor (if_in_range (action.SubscriberData s_id)) result }
 {
@@ -22,7 +22,7 @@ pub(crate) fn subscriber_data(s_id: u64) -> Result<Task, Refusal>
     Ok(Task::SubscriberData { s_id })
 }
 
-/// Makes the task of GET_NEW_DESTINATION: `Field` where s_id isn't in 1..=16,777,216, sf_type isn't in 1..=4,
+/// Makes the task of GET_NEW_DESTINATION. It returns `Field` if s_id isn't in 1..=16,777,216, sf_type isn't in 1..=4,
 /// start_time isn't 0, 8 or 16, or end_time isn't in 1..=24.
 pub(crate) fn new_destination(
     s_id: u64,
@@ -43,7 +43,7 @@ pub(crate) fn new_destination(
     })
 }
 
-/// Makes the task of GET_ACCESS_DATA: `Field` where s_id isn't in 1..=16,777,216 or ai_type isn't in 1..=4.
+/// Makes the task of GET_ACCESS_DATA. It returns `Field` if s_id isn't in 1..=16,777,216 or ai_type isn't in 1..=4.
 pub(crate) fn access_data(s_id: u64, ai_type: u64) -> Result<Task, Refusal>
     ensures { IsTaskFor (if_in_range (action.AccessData s_id ai_type)) result }
 {
@@ -52,8 +52,8 @@ pub(crate) fn access_data(s_id: u64, ai_type: u64) -> Result<Task, Refusal>
     Ok(Task::AccessData { s_id, ai_type })
 }
 
-/// Makes the task of UPDATE_SUBSCRIBER_DATA: `Field` where s_id isn't in 1..=16,777,216, sf_type isn't in 1..=4, bit_1
-/// isn't 0 or 1, or data_a is above 255.
+/// Makes the task of UPDATE_SUBSCRIBER_DATA. It returns `Field` if s_id isn't in 1..=16,777,216, sf_type isn't in
+/// 1..=4, bit_1 isn't 0 or 1, or data_a is above 255.
 pub(crate) fn update_subscriber(
     s_id: u64,
     sf_type: u64,
@@ -69,8 +69,8 @@ pub(crate) fn update_subscriber(
     Ok(Task::UpdateSubscriber(edit))
 }
 
-/// Makes the task that switches a facility on or off: `Field` where s_id isn't in 1..=16,777,216, sf_type isn't in
-/// 1..=4, or is_active isn't 0 or 1.
+/// Makes the task that switches a facility on or off. It returns `Field` if s_id isn't in 1..=16,777,216, sf_type isn't
+/// in 1..=4, or is_active isn't 0 or 1.
 pub(crate) fn set_active(s_id: u64, sf_type: u64, is_active: u64) -> Result<Task, Refusal>
     ensures { IsTaskFor (if_in_range (action.SetActive s_id sf_type is_active)) result }
 {
@@ -81,8 +81,8 @@ pub(crate) fn set_active(s_id: u64, sf_type: u64, is_active: u64) -> Result<Task
     Ok(Task::SetActive(edit))
 }
 
-/// Makes the task of UPDATE_LOCATION for who has the number: `Field` where vlr_location isn't in 1..=4,294,967,295,
-/// then `NoNumber` where nobody has it.
+/// Makes the task of UPDATE_LOCATION for the subscriber who has the number. Its refusals, in order, are `Field` if
+/// vlr_location isn't in 1..=4,294,967,295, and `NoNumber` if nobody has it.
 pub(crate) fn update_location(bearer_id: Option<u32>, vlr_location: u64) -> Result<Task, Refusal>
     requires { (s_id : ℕ) → bearer_id ≡ Some s_id → IsWithin 1 (LAST_SUBSCRIBER + 1) s_id }
     ensures { IsTaskFor (checked (is_between 1 4294967295 vlr_location) (option_map (λ s_id. action.UpdateLocation s_id vlr_location) bearer_id)) result }
@@ -91,8 +91,9 @@ pub(crate) fn update_location(bearer_id: Option<u32>, vlr_location: u64) -> Resu
     Ok(Task::UpdateLocation(edit))
 }
 
-/// Makes the task of INSERT_CALL_FORWARDING for who has the number: `Field` where sf_type isn't in 1..=4, start_time
-/// isn't 0, 8 or 16, or end_time isn't in 1..=24, then `NoNumber` where nobody has it.
+/// Makes the task of INSERT_CALL_FORWARDING for the subscriber who has the number. Its refusals, in order, are `Field`
+/// if sf_type isn't in 1..=4, start_time isn't 0, 8 or 16, or end_time isn't in 1..=24, and `NoNumber` if nobody has
+/// it.
 pub(crate) fn insert_forwarding(
     bearer_id: Option<u32>,
     sf_type: u64,
@@ -108,8 +109,8 @@ pub(crate) fn insert_forwarding(
     Ok(Task::InsertForwarding(edit))
 }
 
-/// Makes the task of DELETE_CALL_FORWARDING for who has the number: `Field` where sf_type isn't in 1..=4 or start_time
-/// isn't 0, 8 or 16, then `NoNumber` where nobody has it.
+/// Makes the task of DELETE_CALL_FORWARDING for the subscriber who has the number. Its refusals, in order, are `Field`
+/// if sf_type isn't in 1..=4 or start_time isn't 0, 8 or 16, and `NoNumber` if nobody has it.
 pub(crate) fn delete_forwarding(
     bearer_id: Option<u32>,
     sf_type: u64,
@@ -122,7 +123,7 @@ pub(crate) fn delete_forwarding(
     Ok(Task::DeleteForwarding(edit))
 }
 
-/// Makes the task that adds an Access_Info row. It refuses none.
+/// Makes the task that adds an Access_Info row. It refuses no row.
 pub(crate) fn add_access(row: Access) -> Result<Task, Refusal>
     ensures { IsTaskFor (Ok (action.AddAccess row)) result }
 {
@@ -131,7 +132,7 @@ pub(crate) fn add_access(row: Access) -> Result<Task, Refusal>
     Ok(Task::AddAccess(AddAccess { row }))
 }
 
-/// Makes the task that adds a Special_Facility row. It refuses none.
+/// Makes the task that adds a Special_Facility row. It refuses no row.
 pub(crate) fn add_facility(row: Facility) -> Result<Task, Refusal>
     ensures { IsTaskFor (Ok (action.AddFacility row)) result }
 {

@@ -1,7 +1,7 @@
-//! The events on rows, as calls of their own: a read lends its row, and a change goes down to its row with no event,
-//! action or reply made of it. Each refuses a field that is out of its range by `Field`, before it asks a row, and
-//! answers `Moving` where the subscriber lies in a loose piece. Each is right whatever jobs have done to the holdings
-//! that are out.
+//! The events on rows, as one call each: a read lends its row, and a change goes straight down to its row, without
+//! making an event, an action or a reply of it. Each call refuses a field that is out of its range with `Field` before
+//! it asks for a row, and returns `Moving` if the subscriber is in a loose piece. Each is right regardless of what jobs
+//! have done to the lent holdings.
 ghost use Rattle.std.specs.Prelude.{◌≡◌, ◌+◌, ℕ, Some, IfOk, IfErr, MatchResult, Bool, Option};
 ghost use Rattle.tatp_rows.specs.declared.ranges.TheConstants.{LAST_SUBSCRIBER};
 ghost use Rattle.hlr_core.specs.Edits.{IsAsked, IsRowAction, action_asked};
@@ -29,7 +29,7 @@ use tatp_rows::{
 
 impl Register {
     /// Does GET_SUBSCRIBER_DATA (TATP, section 3.1), as `Event::SubscriberData`, but the row is lent from where it
-    /// lies: `Field` where s_id isn't in 1..=16,777,216, `Moving`, `NoSubscriber`.
+    /// lies. Its refusals, in order, are `Field` if s_id isn't in 1..=16,777,216, `Moving`, and `NoSubscriber`.
     pub fn lend_subscriber(&self, s_id: u64) -> Result<&Subscriber, Refusal>
         requires { IsHomeTo (event.SubscriberData s_id) self.now }
         ensures row { IfOk result (λ row. IsStep (event.SubscriberData s_id) (store_in self.now) (reply.Rows (row_reply.Row row.now)) (store_in self.now)) }
@@ -40,8 +40,9 @@ impl Register {
         self.owners.lend_subscriber(s_id)
     }
 
-    /// Does GET_ACCESS_DATA (TATP, section 3.3), as `Event::AccessData`, but the row is lent from where it lies:
-    /// `Field` where s_id isn't in 1..=16,777,216 or ai_type isn't in 1..=4, `Moving`, `NoAccess`.
+    /// Does GET_ACCESS_DATA (TATP, section 3.3), as `Event::AccessData`, but the row is lent from where it lies. Its
+    /// refusals, in order, are `Field` if s_id isn't in 1..=16,777,216 or ai_type isn't in 1..=4, `Moving`, and
+    /// `NoAccess`.
     pub fn lend_access(&self, s_id: u64, ai_type: u64) -> Result<&Access, Refusal>
         requires { IsHomeTo (event.AccessData s_id ai_type) self.now }
         ensures row { IfOk result (λ row. IsStep (event.AccessData s_id ai_type) (store_in self.now)
@@ -54,9 +55,9 @@ impl Register {
         self.owners.lend_access(s_id, ai_type)
     }
 
-    /// Does GET_NEW_DESTINATION (TATP, section 3.2), as `Event::NewDestination`: the numbers, one to three, of
-    /// forwardings that are read where they lie: `Field` where s_id isn't in 1..=16,777,216, sf_type isn't in 1..=4, or
-    /// of the hours start_time isn't 0, 8 or 16 or end_time isn't in 1..=24, `Moving`, `NoDestination`.
+    /// Does GET_NEW_DESTINATION (TATP, section 3.2), as `Event::NewDestination`, and returns one to three numbers,
+    /// whose forwardings are read where they lie. Its refusals, in order, are `Field` if s_id isn't in 1..=16,777,216,
+    /// sf_type isn't in 1..=4, start_time isn't 0, 8 or 16, or end_time isn't in 1..=24, `Moving`, and `NoDestination`.
     pub fn destinations(
         &self,
         s_id: u64,
@@ -76,9 +77,9 @@ impl Register {
             .destinations(s_id, sf_type, start_time, end_time)
     }
 
-    /// Does UPDATE_SUBSCRIBER_DATA (TATP, section 3.4), as `Event::UpdateSubscriber`: `Field` where s_id isn't in
-    /// 1..=16,777,216, sf_type isn't in 1..=4, bit_1 isn't in 0..=1 or data_a isn't in 0..=255, `Moving`,
-    /// `NoSubscriber`, `NoFacility`.
+    /// Does UPDATE_SUBSCRIBER_DATA (TATP, section 3.4), as `Event::UpdateSubscriber`. Its refusals, in order, are
+    /// `Field` if s_id isn't in 1..=16,777,216, sf_type isn't in 1..=4, bit_1 isn't in 0..=1 or data_a isn't in
+    /// 0..=255, `Moving`, `NoSubscriber`, and `NoFacility`.
     pub fn update_subscriber(
         &mut self,
         s_id: u64,
@@ -92,8 +93,8 @@ impl Register {
         self.edit(checked::update_subscriber(s_id, sf_type, bit_1, data_a))
     }
 
-    /// Does UPDATE_LOCATION (TATP, section 3.5), as `Event::UpdateLocation`: `Field` where vlr_location isn't in
-    /// 1..=4,294,967,295, `NoNumber`, `Moving`.
+    /// Does UPDATE_LOCATION (TATP, section 3.5), as `Event::UpdateLocation`. Its refusals, in order, are `Field` if
+    /// vlr_location isn't in 1..=4,294,967,295, `NoNumber`, and `Moving`.
     pub fn update_location(&mut self, sub_nbr: Number, vlr_location: u64) -> Result<(), Refusal>
         requires { IsHomeTo (event.UpdateLocation sub_nbr vlr_location) self.old }
         ensures { IsRegisterStep (event.UpdateLocation sub_nbr vlr_location) self.old (edited_reply result) self.new }
@@ -102,9 +103,9 @@ impl Register {
         self.edit(checked::update_location(bearer_id, vlr_location))
     }
 
-    /// Does INSERT_CALL_FORWARDING (TATP, section 3.6), as `Event::InsertForwarding`: `Field` where sf_type isn't in
-    /// 1..=4, or of the hours start_time isn't 0, 8 or 16 or end_time isn't in 1..=24, `NoNumber`, `Moving`,
-    /// `NoFacility`, `Exists`, `Memory`.
+    /// Does INSERT_CALL_FORWARDING (TATP, section 3.6), as `Event::InsertForwarding`. Its refusals, in order, are
+    /// `Field` if sf_type isn't in 1..=4, start_time isn't 0, 8 or 16, or end_time isn't in 1..=24, `NoNumber`,
+    /// `Moving`, `NoFacility`, `Exists`, and `Memory`.
     pub fn insert_forwarding(
         &mut self,
         sub_nbr: Number,
@@ -120,8 +121,8 @@ impl Register {
         self.edit(checked::insert_forwarding(bearer_id, sf_type, start_time, end_time, numberx))
     }
 
-    /// Does DELETE_CALL_FORWARDING (TATP, section 3.7), as `Event::DeleteForwarding`: `Field` where sf_type isn't in
-    /// 1..=4 or the hour start_time isn't 0, 8 or 16, `NoNumber`, `Moving`, `NoForwarding`.
+    /// Does DELETE_CALL_FORWARDING (TATP, section 3.7), as `Event::DeleteForwarding`. Its refusals, in order, are
+    /// `Field` if sf_type isn't in 1..=4 or start_time isn't 0, 8 or 16, `NoNumber`, `Moving`, and `NoForwarding`.
     pub fn delete_forwarding(
         &mut self,
         sub_nbr: Number,
@@ -135,7 +136,8 @@ impl Register {
         self.edit(checked::delete_forwarding(bearer_id, sf_type, start_time))
     }
 
-    /// Adds an Access_Info row, as `Event::AddAccess`: `Moving`, `NoSubscriber`, `Exists`, `Memory`.
+    /// Adds an Access_Info row, as `Event::AddAccess`. Its refusals, in order, are `Moving`, `NoSubscriber`, `Exists`,
+    /// and `Memory`.
     pub fn add_access(&mut self, row: Access) -> Result<(), Refusal>
         requires { IsHomeTo (event.AddAccess row) self.old }
         ensures { IsRegisterStep (event.AddAccess row) self.old (edited_reply result) self.new }
@@ -143,7 +145,8 @@ impl Register {
         self.edit(checked::add_access(row))
     }
 
-    /// Adds a Special_Facility row, as `Event::AddFacility`: `Moving`, `NoSubscriber`, `Exists`, `Memory`.
+    /// Adds a Special_Facility row, as `Event::AddFacility`. Its refusals, in order, are `Moving`, `NoSubscriber`,
+    /// `Exists`, and `Memory`.
     pub fn add_facility(&mut self, row: Facility) -> Result<(), Refusal>
         requires { IsHomeTo (event.AddFacility row) self.old }
         ensures { IsRegisterStep (event.AddFacility row) self.old (edited_reply result) self.new }
@@ -151,8 +154,8 @@ impl Register {
         self.edit(checked::add_facility(row))
     }
 
-    /// Switches a facility on or off, as `Event::SetActive`: `Field` where s_id isn't in 1..=16,777,216, sf_type isn't
-    /// in 1..=4 or is_active isn't in 0..=1, `Moving`, `NoFacility`.
+    /// Switches a facility on or off, as `Event::SetActive`. Its refusals, in order, are `Field` if s_id isn't in
+    /// 1..=16,777,216, sf_type isn't in 1..=4 or is_active isn't in 0..=1, `Moving`, and `NoFacility`.
     pub fn set_active(&mut self, s_id: u64, sf_type: u64, is_active: u64) -> Result<(), Refusal>
         requires { IsHomeTo (event.SetActive s_id sf_type is_active) self.old }
         ensures { IsRegisterStep (event.SetActive s_id sf_type is_active) self.old (edited_reply result) self.new }
@@ -160,7 +163,8 @@ impl Register {
         self.edit(checked::set_active(s_id, sf_type, is_active))
     }
 
-    /// Adds a Subscriber row, as `Event::AddSubscriber`: `Moving`, `Exists`, `NumberTaken`, `Memory`.
+    /// Adds a Subscriber row, as `Event::AddSubscriber`. Its refusals, in order, are `Moving`, `Exists`, `NumberTaken`,
+    /// and `Memory`.
     pub fn add_subscriber(&mut self, row: Subscriber) -> Result<(), Refusal>
         requires { IsHomeTo (event.AddSubscriber row) self.old }
         ensures { IsRegisterStep (event.AddSubscriber row) self.old (edited_reply result) self.new }
@@ -182,9 +186,9 @@ impl Register {
         }
     }
 
-    /// Gives a subscriber another number, as `Event::SetNumber`: the pair in the index first, which may be refused, and
-    /// then the row, which can't be. `Field` where s_id isn't in 1..=16,777,216, `Moving`, `NoSubscriber`,
-    /// `NumberTaken`, `Memory`.
+    /// Gives a subscriber another number, as `Event::SetNumber`. It changes the pair in the index first, which may be
+    /// refused, and then the row, which can't be. Its refusals, in order, are `Field` if s_id isn't in 1..=16,777,216,
+    /// `Moving`, `NoSubscriber`, `NumberTaken`, and `Memory`.
     pub fn set_number(&mut self, s_id: u64, sub_nbr: Number) -> Result<(), Refusal>
         requires { IsHomeTo (event.SetNumber s_id sub_nbr) self.old }
         ensures { IsRegisterStep (event.SetNumber s_id sub_nbr) self.old (edited_reply result) self.new }
@@ -201,7 +205,7 @@ impl Register {
         self.owners.edit_in(owner, SetNumber { s_id, sub_nbr })
     }
 
-    /// Finds the s_id of the subscriber who has a number, or `None`.
+    /// Finds the s_id of the subscriber who has a number, or returns `None` if nobody has it.
     pub fn bearer(&self, sub_nbr: Number) -> Option<u32>
         ensures value { result ≡ bearer_id (book_in self.now.owners).subscribers sub_nbr }
         ensures within { (s_id : ℕ) → result ≡ Some s_id → IsWithin 1 (LAST_SUBSCRIBER + 1) s_id }
@@ -209,7 +213,7 @@ impl Register {
         self.index.find(sub_nbr)
     }
 
-    /// Does an edit that gives no number, unless a field was refused.
+    /// Does an edit that gives no number to a subscriber, unless one of its fields was refused.
     fn edit<E: Edit>(&mut self, asked: Result<E, Refusal>) -> Result<(), Refusal>
         requires action { IfOk asked (λ edit. IsRowAction (E.action edit)) }
         requires home { IfOk asked (λ edit. IsHomeFor (s_id_of (E.action edit)) self.old) }

@@ -11,7 +11,8 @@ const ZONES: u8 = CELLS - FIRST_ZONE;
 // The number that the definitions mean.
 const _: () = prove!(ZONES == 32);
 
-/// The weight of a zone of which so much is published: nothing below 0, and no more than all rows that there can be.
+/// Returns the weight of a zone of which this count is published. The weight is at least 0, and at most the number of
+/// all rows that there can be.
 fn weight_of(published: i64) -> u64
     ensures { result ≡ weight published }
 {
@@ -21,7 +22,7 @@ fn weight_of(published: i64) -> u64
     published.unsigned_abs().min(GREATEST_WEIGHT)
 }
 
-/// The weights of the zones, by the cells as published.
+/// Returns the weights of the zones, given what is published of each cell.
 pub(crate) fn zone_weights(published: &[i64; CELLS as usize]) -> [u64; ZONES as usize]
     ensures value { result ≡ map (λ zone. weight (slice_index_or published.now (FIRST_ZONE + zone) (pos 0))) all_zones }
     ensures small { All (λ w. w ≤ GREATEST_WEIGHT) result }
