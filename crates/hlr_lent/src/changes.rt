@@ -1,5 +1,5 @@
-//! The events on rows, and a posting, as calls of their own: each as the register's own call, where the parts on which
-//! it works are at home. It is right whatever jobs have done to the holdings that are out.
+//! The events on rows, and postings, as one call each. Each does what the call of the same name does on a register, and
+//! needs the parts on which it works to be home. It is right regardless of what jobs have done to the lent holdings.
 ghost use Rattle.hlr_owners.specs.Owners.{IsPartHome};
 ghost use Rattle.hlr_core.specs.WhileOut.{IsRegisterStep};
 ghost use Rattle.hlr_core.specs.Home.{IsHomeTo};

@@ -1,4 +1,4 @@
-//! Whether the parts are at home on which something works.
+//! The tests whether the parts on which something works are home.
 ghost use Rattle.std.specs.Prelude.{◌≡◌, ◌↔◌, IsTrue};
 ghost use Rattle.hlr_owners.specs.Recut.{IsHomeToCut};
 ghost use Rattle.hlr_owners.specs.Owners.{AllHome, IsHomeFor, IsPartHome};
@@ -10,7 +10,7 @@ use part_table::MOST_PARTS;
 use tatp_rows::{LAST_SUBSCRIBER, in_range};
 
 impl Lender {
-    /// Tells whether a part is at home, or there is no such part.
+    /// Returns whether a part is home. It returns true also if there is no such part.
     pub fn is_part_home(&self, part: u64) -> bool
         ensures { IsTrue result ↔ IsPartHome part self.now }
     {
@@ -21,22 +21,22 @@ impl Lender {
         rings[part as usize].is_none()
     }
 
-    /// Tells whether all parts are at home.
+    /// Returns whether all parts are home.
     pub fn is_all_home(&self) -> bool
         ensures { IsTrue result ↔ AllHome self.now.owners }
     {
         !self.lends || self.register.all_at_home()
     }
 
-    /// Tells whether whoever has a subscriber is at home. It answers true of an s_id out of 1..=16,777,216, which
-    /// nobody has.
+    /// Returns whether the owner of a subscriber's region is home. It returns true also if s_id isn't in
+    /// 1..=16,777,216, because nobody has such an s_id.
     pub fn is_home_for(&self, s_id: u64) -> bool
         ensures { IsTrue result ↔ IsHomeFor s_id self.now }
     {
         !self.lends || self.is_place_home(s_id)
     }
 
-    /// The same, by the subscriber's region.
+    /// Returns whether the owner of a subscriber's region is home, by a look at the regions.
     #[inline(never)]
     fn is_place_home(&self, s_id: u64) -> bool
         ensures { IsTrue result ↔ IsHomeFor s_id self.now }
@@ -51,14 +51,15 @@ impl Lender {
         }
     }
 
-    /// Tells whether whoever has the subscriber with a number is at home, or there is no such subscriber.
+    /// Returns whether the owner of the region of the subscriber who has a number is home. It returns true also if
+    /// nobody has the number.
     pub fn is_bearer_home(&self, sub_nbr: Number) -> bool
         ensures { IsTrue result ↔ IsBearerHome sub_nbr self.now }
     {
         !self.lends || self.is_bearer_place_home(sub_nbr)
     }
 
-    /// The same, by the index and the subscriber's region.
+    /// Returns whether that owner is home, by a look at the index and the regions.
     #[inline(never)]
     fn is_bearer_place_home(&self, sub_nbr: Number) -> bool
         ensures { IsTrue result ↔ IsBearerHome sub_nbr self.now }
@@ -69,7 +70,7 @@ impl Lender {
         }
     }
 
-    /// Whether each of some parts is at home.
+    /// Returns whether each of some parts is home.
     fn are_home(&self, parts: Parts) -> bool
         ensures { IsTrue result ↔ AreHome parts self.now }
     {
@@ -81,15 +82,15 @@ impl Lender {
         true
     }
 
-    /// Tells whether the parts on which an event works are at home.
+    /// Returns whether the parts on which an event works are home.
     pub fn is_home_to(&self, event: &Event) -> bool
         ensures { IsTrue result ↔ IsHomeTo event.now self.now }
     {
         self.are_home(self.register.parts_for(event))
     }
 
-    /// Tells whether the parts are at home on both sides of each bound that a re-cut moves. It answers true of bounds
-    /// that a re-cut refuses.
+    /// Returns whether the parts on both sides of each bound that a recut moves are home. It returns true also for
+    /// bounds that a recut refuses.
     pub fn is_home_to_cut(&self, bounds: &[u64]) -> bool
         ensures { IsTrue result ↔ IsHomeToCut bounds.now self.now }
     {

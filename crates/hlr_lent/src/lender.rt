@@ -20,13 +20,13 @@ use std::marker::Model;
 use std::sync::Arc;
 use tatp_rows::Refusal;
 
-/// A register that lends its parts, seen as the register, with the parts that are out as they were lent.
+/// A register that lends its parts, seen as the register, in which a lent part is as it was when it was lent.
 #[derive(Drop)]
 pub struct Lender {
     pub(crate) register: Register,
-    // By the numbers of the parts: at which ring a part that is out is waited for.
+    // For each part, by its number, the ring through which it comes home while it is lent.
     pub(crate) rings: ArrayVec<Option<LenderEnd>, 16>,
-    // Where it is false no part is out, so that a call needs to look at no ring.
+    // If this is false, no part is lent, so that a call needs to look at no ring.
     pub(crate) lends: bool,
 }
 
@@ -63,7 +63,8 @@ fn put_ring(rings: &mut ArrayVec<Option<LenderEnd>, 16>, part: u8, ring: LenderE
     rings.as_mut_slice()[usize::from(part)] = Some(ring);
 }
 
-/// Whether the regions allow an event that moves them, or has a part come or go; they tell why they don't.
+/// Checks whether the regions allow an event that moves them, or that makes or dissolves a part, and otherwise returns
+/// the refusal.
 fn allowed(regions: &Regions, event: &Event) -> Result<(), Refusal>
     ensures { result ≡ allowed event.now regions.now }
 {
@@ -86,7 +87,7 @@ fn allowed(regions: &Regions, event: &Event) -> Result<(), Refusal>
 }
 
 impl Lender {
-    /// Makes a lender of the parts of a register, which are all at home. It takes no memory.
+    /// Makes a lender of a register whose parts are all home. It takes no memory.
     pub fn of(register: Register) -> Lender
         requires { AllHome register.owners }
         ensures { result ≡ register }
@@ -102,7 +103,7 @@ impl Lender {
         }
     }
 
-    /// Gives the register, with the parts that are out as they were lent.
+    /// Returns the register, in which a lent part is as it was when it was lent.
     pub fn register(&self) -> &Register
         ensures value { result.now ≡ self.now }
         ensures ruled { AreOwners self.now }
@@ -111,7 +112,8 @@ impl Lender {
         &self.register
     }
 
-    /// Gives the register alone. A part that is out can't come home to it; `is_all_home` tells whether none is.
+    /// Returns the register alone. A part that is lent then can't come home to it any more; `is_all_home` says
+    /// beforehand whether there is one.
     pub fn into_register(self) -> Register
         ensures { result ≡ self }
     {
@@ -123,8 +125,8 @@ impl Lender {
         register
     }
 
-    /// Lends a part that is at home, for whatever thread. `Memory` where a growth was refused: then nothing
-    /// is changed.
+    /// Lends a part that is home, for any thread. It returns `Memory` if the system refuses memory, and then nothing
+    /// has changed.
     pub fn lend(&mut self, alloc: Global, part: u8) -> Result<Box<LentPart>, Refusal>
         requires { slice_index_or (homes_in self.old.owners) part false ≡ true }
         ensures lent { IfOk result (λ lent. IsLent part self.old lent.value self.new) }
@@ -152,8 +154,8 @@ impl Lender {
         }
     }
 
-    /// Takes a part in that was sent home, and tells whether it did: a part at home, or none, hasn't come. It
-    /// takes no memory, and never waits.
+    /// Takes in a part that was sent home, and returns whether it did. It returns false for a part that is home
+    /// already, or that doesn't exist. It takes no memory, and never waits.
     pub fn back(&mut self, part: u8) -> bool
         ensures come { IsTrue result → IsBack part self.old self.new }
         ensures none { result ≡ false → self.new ≡ self.old }
@@ -175,8 +177,8 @@ impl Lender {
         }
     }
 
-    /// Applies an event whose parts are at home, and replies to it, as `Register::apply`. It is right whatever jobs
-    /// have done to the holdings that are out.
+    /// Applies an event whose parts are home, and returns the reply, as `Register::apply`. The reply is right
+    /// regardless of what jobs have done to the lent holdings.
     pub fn apply(&mut self, event: Event) -> Reply
         requires { IsHomeTo event self.old }
         ensures { IsRegisterStep event self.old result self.new }
@@ -184,9 +186,9 @@ impl Lender {
         self.register.apply(event)
     }
 
-    /// Gives the refusal of an event that is known without the parts that are out: of an event on rows a field out of
-    /// its range, a number that nobody has, and a subscriber in a loose piece; of a posting a part that isn't there;
-    /// and whatever the regions refuse.
+    /// Returns the refusal of an event if it is known without the lent parts. For an event on rows, that is a field out
+    /// of its range, a number that nobody has, or a subscriber in a loose piece. For a posting, it is a part that
+    /// doesn't exist. For other events, it is any refusal that depends on the regions alone.
     pub fn known(&self, event: &Event) -> Option<Refusal>
         ensures step { IfSome result (λ why. IsRegisterStep event.now self.now (Reply.Refused why) self.now) }
         ensures here { IfSome result (λ why. ¬ (IsAway event.now self.now)) }
@@ -199,8 +201,8 @@ impl Lender {
         }
     }
 
-    /// Applies an event, or gives `None` where it waits for a part that is out: then nothing is changed. A refusal that
-    /// is `known` is answered even then, and an event that doesn't wait is answered in any case.
+    /// Applies an event, or returns `None` if it needs a lent part, and then nothing has changed. A refusal that is
+    /// `known` is returned even then, and an event that needs no lent part always gets its reply.
     pub fn ask(&mut self, event: Event) -> Option<Reply>
         ensures step { IfSome result (λ reply. IsRegisterStep event self.old reply self.new) }
         ensures here { IfSome result (λ reply. ¬ (IsAway event self.old)) }
@@ -216,8 +218,8 @@ impl Lender {
         Some(self.apply(event))
     }
 
-    /// Moves the bounds between parts, where those on both sides of each that moves are at home, as
-    /// `Register::recut_to`.
+    /// Moves the bounds between parts, as `Register::recut_to`. The parts on both sides of each bound that moves must
+    /// be home.
     pub fn recut_to(&mut self, bounds: &[u64]) -> Result<u8, Refusal>
         requires { IsHomeToCut bounds.now self.old }
         ensures { IsRegisterRecut bounds.now self.old result self.new }
@@ -225,7 +227,8 @@ impl Lender {
         self.register.recut_to(bounds)
     }
 
-    /// Gives a sight of the board's words, whoever is out, as `Register::look`. It takes no memory, and never waits.
+    /// Returns a sight of the board's words, no matter which parts are lent, as `Register::look`. It takes no memory,
+    /// and never waits.
     pub fn look(&mut self) -> Sight
         ensures right { IsSightOf (store_in self.old) result.words }
         ensures seen { store_in self.new ≡ record (store_in self.old) { sight = result.words } }
@@ -234,7 +237,7 @@ impl Lender {
         self.register.look()
     }
 
-    /// Looks as `look` does, into a sight that the caller has: its 18 KB aren't moved.
+    /// Looks as `look` does, into a sight of the caller's, so that its 18 KB needn't be moved.
     pub fn look_into(&mut self, sight: &mut Sight)
         ensures right { IsSightOf (store_in self.old) sight.new.words }
         ensures seen { store_in self.new ≡ record (store_in self.old) { sight = sight.new.words } }

@@ -1,4 +1,4 @@
-//! A part that is out.
+//! The lent part, on which a thread of the caller's works.
 ghost use Rattle.std.specs.Prelude.{◌≡◌, ◌<◌, ◌≤◌, ◌↔◌, IsTrue, None, Some, [], length, map, option_copied};
 ghost use Rattle.std.specs.Arc.{arc_value};
 ghost use Rattle.rtrb.specs.Ring.{known_free, sent};
@@ -20,10 +20,10 @@ use tatp_actions::Edit;
 use tatp_rows::{Access, Number, Refusal, Subscriber};
 use view_board::Board;
 
-/// A part that is out, seen as its holding. Whoever has it does jobs on its rows, alone, and posts to the board that
-/// all parts share, while the other parts and the register go on.
+/// A lent part, seen as its holding. The thread that has it does jobs on its rows, which no other thread can reach, and
+/// posts to the board that all parts share. Meanwhile the other parts and the register keep working.
 ///
-/// It goes home by `send_home`, from whatever thread. One that is dropped takes its rows along, and its part stays out.
+/// `send_home` sends it home from any thread. If it is dropped instead, its rows are lost, and its part stays lent.
 #[derive(Drop)]
 pub struct LentPart {
     holding: Box<Holding>,
@@ -45,7 +45,8 @@ impl Model for LentPart {
     ghost invariant = { λ o. (o.holding.value.desk.board ≡ arc_value o.board) × (0 < known_free o.ring) × MayComeHome (sent o.ring) o.holding.value };
 }
 
-/// What is left of a lent part that went home. It has no row, and no use but to say which holding was sent.
+/// What is left of a lent part after it was sent home. It has no row, and only says to the prover which holding was
+/// sent.
 #[derive(Drop)]
 pub struct Sent {
     ring: PartEnd,
@@ -66,7 +67,7 @@ impl LentPart {
         }
     }
 
-    /// Gives the holding back, of a part that isn't lent after all.
+    /// Returns the holding of a part that isn't lent after all.
     pub(crate) fn into_holding(self) -> Box<Holding>
         ensures { result.value ≡ self }
     {
@@ -78,7 +79,7 @@ impl LentPart {
         holding
     }
 
-    /// Tells the prover that the part keeps its rules. It does nothing.
+    /// Tells the prover that the part keeps its rules. The call does nothing.
     #[inline(always)]
     pub fn rules(&self)
         ensures { IsHolding self.now }
@@ -86,35 +87,35 @@ impl LentPart {
         self.holding.rules();
     }
 
-    /// Gives the first subscriber of the part, 1..=16,777,216. It stays the same while the part is out.
+    /// Returns the first subscriber of the part, 1..=16,777,216. It can't change while the part is lent.
     pub fn lo(&self) -> u32
         ensures { result ≡ self.now.part.lo }
     {
         self.holding.lo()
     }
 
-    /// Gives the number behind the last subscriber of the part, at most 16,777,217.
+    /// Returns the number behind the last subscriber of the part, at most 16,777,217.
     pub fn hi(&self) -> u32
         ensures { result ≡ self.now.part.hi }
     {
         self.holding.hi()
     }
 
-    /// Tells whether a subscriber lies in the part.
+    /// Returns whether the part has this subscriber in its range.
     pub fn has(&self, s_id: u32) -> bool
         ensures { IsTrue result ↔ IsWithin self.now.part.lo self.now.part.hi s_id }
     {
         self.holding.lo() <= s_id && s_id < self.holding.hi()
     }
 
-    /// Lends the Subscriber row of a subscriber, where the part has one.
+    /// Lends the Subscriber row of a subscriber, or returns `None` if the part has no such row.
     pub fn lend_subscriber(&self, s_id: u32) -> Option<&Subscriber>
         ensures { option_copied result ≡ subscriber_at self.now.part.book s_id }
     {
         self.holding.lend_subscriber(s_id)
     }
 
-    /// Lends the Access_Info row of a subscriber's access, where the part has one.
+    /// Lends the Access_Info row of a subscriber's access, or returns `None` if the part has no such row.
     pub fn lend_access(&self, s_id: u32, ai_type: u8) -> Option<&Access>
         ensures { option_copied result ≡ access_at self.now.part.book s_id ai_type }
     {
@@ -130,7 +131,7 @@ impl LentPart {
         self.holding.copy_subscribers(s_ids, rows);
     }
 
-    /// Puts up to 16 Access_Info rows into an empty list, each asked by its s_id and ai_type, as
+    /// Puts up to 16 Access_Info rows into an empty list, each asked for by its s_id and ai_type, as
     /// `Holding::copy_access`.
     pub fn copy_access(&self, asked: &[(u32, u8)], rows: &mut ArrayVec<Option<Access>, 16>)
         requires few { length asked.now ≤ 16 }
@@ -140,7 +141,8 @@ impl LentPart {
         self.holding.copy_access(asked, rows);
     }
 
-    /// Gives the numbers to which calls of a subscriber are forwarded, as `Holding::destinations`: at most three.
+    /// Returns the numbers to which calls of a subscriber are forwarded, as `Holding::destinations`. There are at most
+    /// three.
     pub fn destinations(
         &self,
         s_id: u32,
@@ -154,8 +156,8 @@ impl LentPart {
             .destinations(s_id, sf_type, start_time, end_time)
     }
 
-    /// Puts the numbers to which up to 16 calls are forwarded into an empty list, of each call by its s_id, sf_type,
-    /// start_time and end_time, as `Holding::copy_destinations`.
+    /// Puts the numbers to which up to 16 calls are forwarded into an empty list, each call asked for by its s_id,
+    /// sf_type, start_time and end_time, as `Holding::copy_destinations`.
     pub fn copy_destinations(
         &self,
         asked: &[(u32, u8, u8, u8)],
@@ -168,8 +170,9 @@ impl LentPart {
         self.holding.copy_destinations(asked, found);
     }
 
-    /// Does an edit on a subscriber of the part, that gives no number, as `Holding::edit`: `Field`, then the refusals
-    /// of the rows, `Memory` only where a row is added. A refusal changes nothing.
+    /// Does an edit of the part's rows that gives no number to a subscriber, as `Holding::edit`. Its refusals, in
+    /// order, are `Field`, and then those of the rows, where `Memory` comes only if a row is added. A refusal changes
+    /// nothing.
     pub fn edit<E: Edit>(&mut self, edit: E) -> Result<(), Refusal>
         requires within { IsWithin self.old.part.lo self.old.part.hi (s_id_of (E.action edit)) }
         requires number { given_number (E.action edit) ≡ None }
@@ -178,16 +181,16 @@ impl LentPart {
         self.holding.edit(edit)
     }
 
-    /// Posts what is pending of the part, at most so many cells, as `Holding::post`, and tells how many were: `Worn`,
-    /// after which the cells before stay posted.
+    /// Posts the first `limit` unposted cells of the part, as `Holding::post`, and returns how many it posted. It
+    /// returns `Worn` if a word would pass its limit, and then the cells that were posted before stay posted.
     pub fn post(&mut self, limit: u64) -> Result<u8, Refusal>
         ensures { IsJobDone (job.Post limit) self.old (posted_reply result) self.new }
     {
         self.holding.post(&self.board, limit)
     }
 
-    /// Sends the part home as it is, where `Lender::back` takes it in. It takes no memory, and never waits. What it
-    /// returns says which holding was sent, and may be dropped at once.
+    /// Sends the part home as it is, and `Lender::back` takes it in there. It takes no memory, and never waits. What it
+    /// returns only says which holding was sent, so it may be dropped at once.
     pub fn send_home(self) -> Sent
         ensures { holding_sent result ≡ Some self }
     {

@@ -1,6 +1,6 @@
-//! A register whose parts are lent to the caller's threads. Each lent part comes home through a ring of its own. A job on
-//! a lent part costs what it costs the holding; nothing waits, nothing is locked, and a ring carries back only what jobs
-//! have made of the holding that was lent. A lent part that is dropped takes its rows along, and its part stays out.
+//! A register whose parts are lent to the caller's threads. Each lent part comes home through a ring of its own. A job
+//! on a lent part costs what it costs on its holding, without a wait and without a lock. A ring carries back only what
+//! jobs have made of the holding that was lent. If a lent part is dropped, its rows are lost, and its part stays lent.
 #![tactic(auto)]
 
 mod changes;

@@ -1,4 +1,5 @@
-//! The ring of a part that is out: first how its holding is as it is lent, and then the holding as it comes home.
+//! The ring of a lent part. First it gets the state of the holding as it is lent, and then the holding itself as it
+//! comes home.
 ghost use Rattle.std.specs.Prelude.{◌≡◌, ◌<◌, [], None, Some, IfOk, IfSome};
 ghost use Rattle.rtrb.specs.Ring.{IsPair, known_free, known_items, received, sent};
 ghost use Rattle.holding.specs.Held.{HoldingState};
@@ -9,26 +10,26 @@ use rtrb::{Consumer, Producer, Protocol, RingBuffer};
 use std::alloc::{AllocError, Global};
 use std::snapshot::Snapshot;
 
-/// What goes through the ring of a part that is out.
+/// A message through the ring of a lent part.
 #[derive(Drop)]
 pub enum Message {
-    /// How the holding is as it is lent. It has no bytes.
+    /// The state of the holding as it is lent, which takes no bytes.
     Lent(Snapshot<Holding>),
     /// The holding as it comes home.
     Home(Box<Holding>),
 }
 
-/// The rule of such a ring: what is lent comes home as jobs have made it.
+/// The rule of such a ring: the holding that comes home is the one that was lent, as jobs have made it.
 pub struct ReturnRule;
 
 impl Protocol<Message> for ReturnRule {
     ghost allows = { MayFollow };
 }
 
-/// The end of the lent part, which sends the holding home.
+/// The end of the ring that the lent part has, and through which it sends the holding home.
 pub type PartEnd = Producer<Message, Global, ReturnRule>;
 
-/// The end of the lender, who takes it in.
+/// The end of the ring that the lender has, and from which it takes the holding in.
 pub type LenderEnd = Consumer<Message, Global, ReturnRule>;
 
 /// Makes a ring through which nothing has gone yet.
@@ -40,7 +41,7 @@ pub(crate) fn ring(alloc: Global) -> Result<(PartEnd, LenderEnd), AllocError>
     RingBuffer::with_protocol::<Global, ReturnRule>(alloc, 2)
 }
 
-/// Tells both ends how the holding is that is lent.
+/// Tells both ends of the ring the state of the holding that is lent.
 pub(crate) fn tell(part: &mut PartEnd, lender: &mut LenderEnd, holding: &Holding)
     requires pair { IsPair part.old lender.old }
     requires part { (sent part.old ≡ []) × (known_free part.old ≡ 2) }

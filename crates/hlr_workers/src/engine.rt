@@ -27,8 +27,8 @@ use tatp_actions::RowReply;
 use tatp_rows::Refusal;
 use view_board::Sight;
 
-/// A register that takes events while workers, a thread for each part that has jobs, do what its parts can do alone.
-/// It is ended by `close` alone, so no worker outlives it.
+/// A register that takes events while workers do what its parts can do alone. A part with jobs has a worker, which is a
+/// thread. Only `close` ends an engine, so no worker outlives it.
 pub struct Engine<G: Gate + 'static> {
     workers: Workers,
     gate: Arc<G>,
@@ -65,7 +65,7 @@ fn grow(replies: &mut Vec<(u64, Reply)>, alloc: Global) -> Result<(), Refusal>
     Ok(())
 }
 
-/// Makes room for the replies to come, where there is none.
+/// Makes room for the replies to come, if there is none.
 fn reserve(replies: &mut Vec<(u64, Reply)>, alloc: Global) -> Result<(), Refusal>
     requires { (replies.old.items ≡ []) ⊎ (MOST_PENDING ≤ vec_capacity replies.old) }
     ensures room { OnOk result (MOST_PENDING ≤ vec_capacity replies.new) }
@@ -80,12 +80,12 @@ fn reserve(replies: &mut Vec<(u64, Reply)>, alloc: Global) -> Result<(), Refusal
     grow(replies, alloc)
 }
 
-/// What stands in the place of a reply until it comes.
+/// Makes the reply that fills the place of a later one until that comes.
 fn blank() -> Reply {
     Reply::Rows(RowReply::Done)
 }
 
-/// Puts a reply in its place, if there is one.
+/// Puts a reply into its place, if there is such a place.
 fn put(replies: &mut Vec<(u64, Reply)>, answer: (u64, Reply))
     ensures items { replies.new.items ≡ slice_set replies.old.items answer.0 answer }
     ensures capacity { vec_capacity replies.new ≡ vec_capacity replies.old }
@@ -96,7 +96,7 @@ fn put(replies: &mut Vec<(u64, Reply)>, answer: (u64, Reply))
     }
 }
 
-/// Puts all replies of a list in their places.
+/// Puts all replies of a list into their places.
 fn put_answers(replies: &mut Vec<(u64, Reply)>, answers: &mut Vec<(u64, Reply)>)
     ensures items { replies.new.items ≡ put_answers replies.old.items answers.old.items }
     ensures capacity { vec_capacity replies.new ≡ vec_capacity replies.old }
@@ -108,7 +108,8 @@ fn put_answers(replies: &mut Vec<(u64, Reply)>, answers: &mut Vec<(u64, Reply)>)
     }
 }
 
-/// Brings a part home, if it is out, whose worker was told to stop, and puts the replies to its jobs in their places.
+/// Brings a lent part home whose worker was told to stop, and puts the replies to its jobs into their places. It does
+/// nothing if the part is home.
 fn join<G: Gate, R: Threads + Wait>(
     rt: &R,
     workers: &mut Workers,
@@ -127,7 +128,7 @@ fn join<G: Gate, R: Threads + Wait>(
     }
 }
 
-/// Brings parts home, whose workers were told to stop.
+/// Brings parts home whose workers were told to stop.
 fn join_parts<G: Gate, R: Threads + Wait>(
     rt: &R,
     workers: &mut Workers,
@@ -144,7 +145,7 @@ fn join_parts<G: Gate, R: Threads + Wait>(
     }
 }
 
-/// Brings parts home: all their workers are told to stop before the first is waited for.
+/// Brings parts home. It tells all of their workers to stop before it waits for the first one.
 fn bring_parts_home<G: Gate, R: Threads + Wait>(
     rt: &R,
     workers: &mut Workers,
@@ -178,7 +179,7 @@ fn bring_all_home<G: Gate, R: Threads + Wait>(
     workers.rules();
 }
 
-/// Brings the parts home on which an event works that the register does itself.
+/// Brings home the parts on which an event works that the register does itself.
 fn bring_workers_home<G: Gate, R: Threads + Wait>(
     rt: &R,
     workers: &mut Workers,
@@ -196,8 +197,8 @@ fn bring_workers_home<G: Gate, R: Threads + Wait>(
     workers.rules();
 }
 
-/// Has the register itself do an event, which gives a number, moves regions, or has a part come or go: the parts that
-/// work on it come home first, the others go on.
+/// Has the register itself do an event, which gives a number to a subscriber, moves regions, or makes or dissolves a
+/// part. The parts on which it works come home first, and the others keep working.
 #[inline(never)]
 fn answer_here<G: Gate, R: Threads + Wait>(
     rt: &R,
@@ -214,8 +215,8 @@ fn answer_here<G: Gate, R: Threads + Wait>(
     workers.apply(event)
 }
 
-/// Answers an event, or sends it to the worker of a part; its reply comes later then, and until it does a blank stands
-/// in its place.
+/// Replies to an event at once, or sends it to the worker of a part. In the latter case the reply comes later, and a
+/// blank one has its place until then.
 fn answer<G: Gate + 'static, R: Threads + Wait + Copy + Send + Sync + 'static>(
     rt: &R,
     alloc: Global,
@@ -243,9 +244,9 @@ fn answer<G: Gate + 'static, R: Threads + Wait + Copy + Send + Sync + 'static>(
     }
 }
 
-/// Brings the parts home on both sides of each bound that a re-cut moves. First all jobs that are held are handed on,
-/// and all workers of these parts are told to stop; only then is the first of them waited for. It may wait. Where the
-/// bounds are refused nothing is handed on, and nobody is brought home.
+/// Brings home the parts on both sides of each bound that a recut moves. It hands on all jobs that are held and tells
+/// all workers of these parts to stop, before it waits for the first of them. If the bounds are refused, it hands on
+/// nothing and brings no part home. It may wait.
 fn bring_sides_home<G: Gate, R: Threads + Wait>(
     rt: &R,
     workers: &mut Workers,
@@ -276,8 +277,8 @@ fn bring_sides_home<G: Gate, R: Threads + Wait>(
 }
 
 impl<G: Gate + 'static> Engine<G> {
-    /// Makes an engine over a register with all parts at home. The gate is called round each job, by the thread that
-    /// does it. It takes no memory.
+    /// Makes an engine over a register whose parts are all home. The thread that does a job calls the gate before and
+    /// after it. It takes no memory.
     pub fn new(alloc: Global, register: Register, gate: Arc<G>) -> Engine<G>
         requires { AllHome register.owners }
         ensures register { result.register ≡ register }
@@ -299,7 +300,7 @@ impl<G: Gate + 'static> Engine<G> {
         self.replies.len()
     }
 
-    /// Gives the register, where no event is pending.
+    /// Returns the register. No event may be pending.
     pub fn register(&self) -> &Register
         requires { self.now.replies ≡ [] }
         ensures value { result.now ≡ self.now.register }
@@ -310,14 +311,15 @@ impl<G: Gate + 'static> Engine<G> {
         self.workers.register()
     }
 
-    /// Takes an event, where fewer than `MOST_PENDING` are pending: the answer is its number, counted from 0 after each
-    /// settle. What is known at once is answered at once; what a part does alone goes to the part's worker, which is
-    /// started for its first job; what gives a number or moves regions is done here, once the part is home that works
-    /// on it, and what has a part come or go, once all parts are home whose rows or numbers change with it. A worker's
-    /// first job goes out at once, later ones when 16 are held, or at the next call that brings parts home or looks:
-    /// `settle`, `close`, `recut_to`, `sight`, or an event that is done here. `Memory` where a growth was refused,
-    /// `Thread` where the start of a thread was: then the event isn't taken. The first event after a settle wants
-    /// memory, and one that starts a worker; no other is refused. It may wait.
+    /// Takes an event, while fewer than `MOST_PENDING` are pending, and returns its number, counted from 0 after each
+    /// settle. A reply that is known at once is kept at once. What a part can do alone goes to the worker of that part,
+    /// which is started for its first job. The register itself does an event that gives a number or moves regions, once
+    /// the part on which it works is home, and one that makes or dissolves a part, once all parts are home whose rows
+    /// or numbers it changes. The first job of a worker is pushed at once. Later ones are pushed when 16 are held, or
+    /// at the next call that brings parts home or looks at the board: `settle`, `close`, `recut_to`, `sight`, or an
+    /// event that the register does itself. It returns `Memory` if the system refuses memory, and `Thread` if it
+    /// refuses to start a thread, and then the event isn't taken. Only the first event after a settle, and one that
+    /// starts a worker, need memory, so no other event is refused. It may wait.
     pub fn submit<R: Threads + Wait + Copy + Send + Sync + 'static>(
         &mut self,
         rt: &R,
@@ -348,8 +350,8 @@ impl<G: Gate + 'static> Engine<G> {
         Ok(number)
     }
 
-    /// Brings all parts home: the replies to all events since the last settle, in their order, each with its number. It
-    /// takes no memory. It may wait.
+    /// Brings all parts home, and returns the replies to all events since the last settle, in their order, each with
+    /// its number. It takes no memory. It may wait.
     pub fn settle<R: Threads + Wait>(&mut self, rt: &R) -> Vec<(u64, Reply)>
         ensures each { length result.items ≡ length self.old.replies }
         ensures numbered { AreNumbered result.items }
@@ -363,9 +365,9 @@ impl<G: Gate + 'static> Engine<G> {
         mem::replace(&mut self.replies, Vec::new(self.alloc))
     }
 
-    /// Moves the bounds between parts, as `Register::recut_to`: the parts on both sides of each bound that moves come
-    /// home first, and all other workers keep working. Before that, the jobs that are held for any part are handed on,
-    /// which waits for room where a queue is full. It may wait.
+    /// Moves the bounds between parts, as `Register::recut_to`. The parts on both sides of each bound that moves come
+    /// home first, and all other workers keep working. Before that, it hands on the jobs that are held for any part,
+    /// which waits for room if a queue is full. It may wait.
     pub fn recut_to<R: Threads + Wait>(&mut self, rt: &R, bounds: &[u64]) -> Result<u8, Refusal>
         ensures took { TookNext (Cut bounds.now result) self.old self.new }
         ensures pending { length self.new.replies ≡ length self.old.replies }
@@ -375,8 +377,8 @@ impl<G: Gate + 'static> Engine<G> {
         self.workers.recut_to(bounds)
     }
 
-    /// Gives a sight of the board's words, as `Register::look`, while workers post. It takes no memory, and waits for
-    /// nobody.
+    /// Looks at the board while workers post, and returns a sight of its words, as `Register::look`. It takes no
+    /// memory, and waits for nobody.
     pub fn sight(&mut self) -> Sight
         ensures right { IsSightOf (store_in self.old.register) result.words }
         ensures stands { IsAsBefore self.old self.new }
@@ -386,7 +388,8 @@ impl<G: Gate + 'static> Engine<G> {
         self.workers.look()
     }
 
-    /// Ends the engine: its register, with all parts at home, and the replies as `settle` gives them. It may wait.
+    /// Ends the engine, and returns its register, whose parts are all home, and the replies that `settle` would return.
+    /// It may wait.
     pub fn close<R: Threads + Wait>(self, rt: &R) -> (Register, Vec<(u64, Reply)>)
         ensures each { length result.1.items ≡ length self.replies }
         ensures numbered { AreNumbered result.1.items }

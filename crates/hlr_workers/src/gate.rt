@@ -1,12 +1,12 @@
-//! What is called round each job.
+//! The gate, which a worker calls around each job.
 
-/// Called by the thread that does a job, before it and after it: so a test sees which threads work, and can hold one
-/// up. A gate that waits for the thread which submits stands for ever where that one waits for a place in the part's
-/// queue, or for the part to come home.
+/// A type of the caller's that the thread which does a job calls before and after the job. With a gate, a test sees
+/// which threads work, and can hold one up. A gate must not wait for the thread that submits events, because that
+/// thread may wait for a place in the queue of this part, or for this part to come home, and then neither continues.
 pub trait Gate: Sync + Send + Drop {
-    /// Runs before the job `seq` of a part.
+    /// Runs before the job with the number `seq`, on this part.
     fn before(&self, part: u8, seq: u64);
 
-    /// Runs after it.
+    /// Runs after the job with the number `seq`, on this part.
     fn after(&self, part: u8, seq: u64);
 }

@@ -1,5 +1,5 @@
-//! A worker's inbox: its queue, and how a worker that found it empty sleeps until something is put in, and who found it
-//! full until something is taken out.
+//! The inbox of a worker, which is its queue together with two ways to sleep: a worker that finds the queue empty
+//! sleeps until a message is put in, and a thread that finds it full sleeps until one is taken out.
 ghost use Rattle.std.specs.Prelude.{◌≡◌, true, false, [], ◌∷◌, ◌++◌, None, IfErr, IfSome, OnErr, OnOk};
 ghost use Rattle.crossbeam_queue.specs.Passes.{view, IsPassOf};
 ghost use Rattle.hlr_workers.specs.Relay.{log, IsWellSent};
@@ -11,11 +11,11 @@ use crossbeam_utils::sync::EventCount;
 use std::alloc::Global;
 use std::sync::{Arc, Wait};
 
-/// How often a queue that is empty, or full, is looked at before who waits for it sleeps.
+/// How often a thread looks at a queue that is empty, or full, before it sleeps.
 pub(crate) const LOOKS: u32 = 1_000;
 
-/// A worker's queue, the count of pushes that wakes the worker, and the count of pops of all workers' queues that wakes
-/// who pushes.
+/// The queue of a worker, with the count of pushes that wakes the worker, and the count of pops of all workers' queues
+/// that wakes a thread which waits for a place.
 #[derive(Drop)]
 pub(crate) struct Inbox {
     pub(crate) queue: Queue,
@@ -24,7 +24,8 @@ pub(crate) struct Inbox {
 }
 
 impl Inbox {
-    /// Puts a message in, if there is a place, and wakes the worker if it sleeps; else it gives the message back.
+    /// Puts a message into the queue if there is a place, and wakes the worker if it sleeps. If there is no place, it
+    /// gives the message back.
     pub(crate) fn offer(&self, pass: &mut QueuePass, message: Message) -> Result<(), Message>
         requires pass { IsPassOf self.now.queue pass.old }
         requires sends { view pass.old ≡ log true false (view pass.old).sent [] }
@@ -39,8 +40,8 @@ impl Inbox {
         Ok(())
     }
 
-    /// Tries once more, and sleeps if there is no place: a pop after this try ends the sleep, or keeps it from
-    /// beginning.
+    /// Tries once more to put a message in, and sleeps if there is no place. A pop after this try ends the sleep, or
+    /// keeps it from beginning.
     fn offer_or_sleep<R: Wait>(
         &self,
         rt: &R,
@@ -65,8 +66,8 @@ impl Inbox {
         }
     }
 
-    /// Puts a message in, once there is a place, and wakes the worker if it sleeps: it spins for a while, then yields,
-    /// and then sleeps. It may wait.
+    /// Puts a message in once there is a place, and wakes the worker if it sleeps. While it waits for a place, it spins
+    /// for a while, then yields, and then sleeps. It may wait.
     pub(crate) fn push<R: Wait>(&self, rt: &R, pass: &mut QueuePass, mut message: Message)
         requires pass { IsPassOf self.now.queue pass.old }
         requires sends { view pass.old ≡ log true false (view pass.old).sent [] }
@@ -94,8 +95,8 @@ impl Inbox {
         unreachable!()
     }
 
-    /// Looks once more, and sleeps if there is nothing: a push after this look ends the sleep, or keeps it from
-    /// beginning.
+    /// Looks once more for a message, and sleeps if there is none. A push after this look ends the sleep, or keeps it
+    /// from beginning.
     fn sleep<R: Wait>(&self, rt: &R, pass: &mut QueuePass) -> Option<Message>
         requires pass { IsPassOf self.now.queue pass.old }
         requires gets { view pass.old ≡ log false true [] (view pass.old).got }
@@ -112,7 +113,8 @@ impl Inbox {
         message
     }
 
-    /// The next message, once there is one: it spins for a while, then yields, and then sleeps. It may wait.
+    /// Returns the next message, once there is one. While it waits, it spins for a while, then yields, and then sleeps.
+    /// It may wait.
     fn next<R: Wait>(&self, rt: &R, pass: &mut QueuePass) -> Message
         requires pass { IsPassOf self.now.queue pass.old }
         requires gets { view pass.old ≡ log false true [] (view pass.old).got }
@@ -136,7 +138,7 @@ impl Inbox {
         unreachable!()
     }
 
-    /// Takes the next message out, once there is one, and wakes who waits for a place. It may wait.
+    /// Takes the next message out, once there is one, and wakes a thread that waits for a place. It may wait.
     pub(crate) fn pop<R: Wait>(&self, rt: &R, pass: &mut QueuePass) -> Message
         requires pass { IsPassOf self.now.queue pass.old }
         requires gets { view pass.old ≡ log false true [] (view pass.old).got }
@@ -149,7 +151,8 @@ impl Inbox {
         message
     }
 
-    /// Takes the next message out, or finds that none waits, and so that all that was sent is received. It may wait.
+    /// Takes the next message out, or finds that none waits, in which case all that was sent has been received. It may
+    /// wait.
     pub(crate) fn pop_rest<R: Wait>(&self, rt: &R, pass: &mut QueuePass) -> Option<Message>
         requires pass { IsPassOf self.now.queue pass.old }
         requires both { view pass.old ≡ log true true (view pass.old).sent (view pass.old).got }

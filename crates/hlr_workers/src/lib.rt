@@ -1,8 +1,8 @@
-//! An engine over a register: each part is owned by a worker in a thread of its own while there are jobs for it, and a
-//! settle brings all home, with the replies that one thread would give, in the order of the events. An event costs the
-//! look for its part and a place in a message of up to 16, and a part's first job after a settle the start of a thread.
-//! A call waits where a worker's queue is full or a part has to come home, and no reply comes before `settle` or
-//! `close`.
+//! An engine over a register. While a part has jobs, a worker in a thread of its own has the part. A settle brings all
+//! parts home, and returns the replies that one thread would have given, in the order of the events. An event costs a
+//! lookup of its part and a place in a message of up to 16 jobs, and the first job of a part after a settle costs the
+//! start of a thread. A call waits if the queue of a worker is full or a part has to come home, and no reply comes
+//! before `settle` or `close`.
 #![tactic(auto)]
 
 mod engine;

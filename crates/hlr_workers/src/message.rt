@@ -1,4 +1,4 @@
-//! What goes through a worker's queue, and what each of its two ends knows.
+//! The messages through the queue of a worker, and what each end of the queue knows of them.
 ghost use Rattle.std.specs.Prelude.{◌≡◌};
 ghost use Rattle.std.specs.Arc.{arc_value};
 
@@ -9,7 +9,7 @@ use std::collections::LinkedList;
 use std::sync::Arc;
 use view_board::Board;
 
-/// A holding that is lent, with the board to which its desk belongs.
+/// A lent holding, with the board to which its desk belongs.
 #[derive(Drop)]
 pub struct Lent {
     pub holding: Box<Holding>,
@@ -20,7 +20,7 @@ pub struct Lent {
 /// How many jobs a message has at most.
 pub const MOST_JOBS: usize = 16;
 
-/// A job as a task, under the number of its event.
+/// A job, as a task, with the number of its event.
 #[derive(Clone, Copy)]
 pub struct Numbered {
     pub number: u64,
@@ -39,7 +39,8 @@ impl Default for Numbered {
 /// The jobs of a message, in their order.
 pub type Batch = ArrayVec<Numbered, MOST_JOBS>;
 
-/// A message to a worker: first the holding, then jobs; at `Stop` the thread hands back what it has.
+/// A message to a worker. The first one has the holding, and later ones have jobs. After `Stop`, the thread hands back
+/// what it has.
 #[derive(Drop)]
 pub enum Message {
     Begin(Lent),
@@ -47,7 +48,8 @@ pub enum Message {
     Stop,
 }
 
-/// What a pass may do (push, pop), what it has pushed and what it has popped. No value of it is made.
+/// What the owner of a pass may do (push, pop), what it has pushed, and what it has popped. The definitions use it, and
+/// no value of it is ever made.
 pub struct Log {
     pub pushes: bool,
     pub pops: bool,

@@ -1,4 +1,5 @@
-//! The rule of a worker's queue: one pass pushes, one pops, and what was sent is what was received and then what waits.
+//! The rule of the queue of a worker. One pass pushes and one pops, and the messages that were sent are those that were
+//! received, followed by those that wait.
 ghost use Rattle.std.specs.Prelude.{◌≡◌, true, false, [], ◌∷◌, ◌++◌};
 ghost use Rattle.hlr_workers.specs.Relay.{log, IsRelayed, IsWellSent};
 
@@ -6,7 +7,7 @@ use crate::message::{Log, Message};
 use crossbeam_queue::protocol::{Join, Lesson, Outcome, Protocol, Split};
 use crossbeam_queue::{Pass, RuledArrayQueue};
 
-/// The rule: what was sent comes in its order.
+/// The rule: messages are received in the order in which they were sent.
 pub struct InOrder;
 
 impl Protocol<Message, Log> for InOrder {
@@ -15,7 +16,8 @@ impl Protocol<Message, Log> for InOrder {
     ghost first = { log true true [] [] };
 }
 
-/// A pass that may do both becomes the router's and the worker's, and these one again.
+/// The step by which a pass that may both push and pop becomes the router's and the worker's, and by which these two
+/// become one again.
 pub struct Roles;
 
 impl Split<Log> for Roles {
@@ -30,21 +32,21 @@ impl Join<Log> for Roles {
     ghost spent = { log false false [] [] };
 }
 
-/// A message was pushed.
+/// The step of a push.
 pub struct Sent;
 
 impl Outcome<Message, Log> for Sent {
     ghost then = { λ v x w. w ≡ log v.pushes v.pops (v.sent ++ x ∷ []) v.got };
 }
 
-/// A message was popped, and is in its place among those that may be sent.
+/// The step of a pop. The message that is popped is in its place among those that may have been sent.
 pub struct Got;
 
 impl Outcome<Message, Log> for Got {
     ghost then = { λ v x w. (w ≡ log v.pushes v.pops v.sent (v.got ++ x ∷ [])) × IsWellSent (v.got ++ x ∷ []) };
 }
 
-/// A message was popped, or none waits: what was sent is what was received then.
+/// The step of a pop that may find no message waiting; then all that was sent has been received.
 pub struct Rest;
 
 impl Outcome<Message, Log> for Rest {
@@ -55,8 +57,8 @@ impl Lesson<Message, Log> for Rest {
     ghost fact = { λ v items. v.sent ≡ v.got ++ items };
 }
 
-/// A worker's queue.
+/// The queue of a worker.
 pub type Queue = RuledArrayQueue<Message, Log, InOrder>;
 
-/// A pass of it.
+/// A pass of such a queue.
 pub type QueuePass = Pass<Message, Log>;

@@ -1,4 +1,4 @@
-//! What a worker's thread does.
+//! The work of a worker's thread.
 ghost use Rattle.std.specs.Prelude.{◌≡◌, ◌≤◌, ◌+◌, true, false, [], ◌∷◌, length, vec_capacity};
 ghost use Rattle.crossbeam_queue.specs.Passes.{view, IsPassOf};
 ghost use Rattle.hlr_workers.specs.Finish.{IsAtWork, IsSessionMore};
@@ -15,7 +15,7 @@ use holding::Holding;
 use std::sync::Wait;
 use view_board::Board;
 
-/// How many events may be pending at most, and so for how many replies a worker has room.
+/// How many events may be pending at most, which is also the number of replies for which a worker has room.
 pub const MOST_PENDING: usize = 4_096;
 
 // The number that the condition of a submit means.
@@ -29,7 +29,7 @@ pub struct EmptyList {
     pub ghost room: { MOST_PENDING ≤ vec_capacity list },
 }
 
-/// What the thread hands back: its pass, the holding as it is now, with its board, and the replies.
+/// What the thread hands back: its pass, the board, the holding as it is now, and the replies.
 #[derive(Drop)]
 pub(crate) struct Finished {
     pub(crate) pass: QueuePass,
@@ -37,7 +37,7 @@ pub(crate) struct Finished {
     pub(crate) replies: Vec<(u64, Reply)>,
 }
 
-/// The first message, which is the holding.
+/// Takes the first message, which is the holding.
 fn first<R: Wait>(rt: &R, inbox: &Inbox, pass: &mut QueuePass) -> Lent
     requires { IsPassOf inbox.now.queue pass.old × (view pass.old ≡ log false true [] []) }
     ensures { IsPassOf inbox.now.queue pass.new × (view pass.new ≡ log false true [] (Begin result ∷ [])) }
@@ -48,7 +48,7 @@ fn first<R: Wait>(rt: &R, inbox: &Inbox, pass: &mut QueuePass) -> Lent
     }
 }
 
-/// Does the jobs of a message, one after another, and writes their replies down.
+/// Does the jobs of a message, one after another, and adds their replies to the list.
 pub(crate) fn do_batch<G: Gate>(
     gate: &G,
     part: u8,
@@ -72,7 +72,7 @@ pub(crate) fn do_batch<G: Gate>(
     }
 }
 
-/// Does the jobs that come, until `Stop`: the pass, the holding and the replies then.
+/// Does the jobs that come until `Stop`, and returns the pass, the holding and the replies.
 fn serve<G: Gate, R: Wait>(
     rt: &R,
     inbox: &Inbox,
@@ -104,7 +104,7 @@ fn serve<G: Gate, R: Wait>(
     unreachable!()
 }
 
-/// The whole life of a worker's thread.
+/// Runs the thread of a worker, from its start to its end.
 pub(crate) fn live<G: Gate, R: Wait>(
     rt: &R,
     inbox: &Inbox,

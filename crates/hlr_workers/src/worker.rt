@@ -1,4 +1,4 @@
-//! A worker, as the router holds it.
+//! A worker, as the router that sends jobs to it sees it.
 ghost use Rattle.std.specs.Prelude.{List, ◌≡◌, ◌<◌, ◌≤◌, ◌++◌, ◌∷◌, [], ◌⊎◌, length, IfOk, OnErr, true, false, vec_capacity};
 ghost use Rattle.std.specs.Arc.{arc_value};
 ghost use Rattle.crossbeam_queue.specs.Passes.{view, IsPassOf};
@@ -32,7 +32,7 @@ use view_board::Board;
 /// How many messages a worker's queue holds.
 const PLACES: usize = 256 / MOST_JOBS;
 
-// The thread hands back what it received up to `Stop`, the replies and the holding.
+// The promise of the thread: it hands back what it received up to `Stop`, the replies, and the holding.
 #[derive(Drop)]
 struct WorksOff(Snapshot<Arc<Inbox, Global>>);
 
@@ -68,12 +68,12 @@ impl Model for Idle {
     ghost invariant = { λ w. IsPassOf (arc_value w.inbox).queue w.pass × (knows w.pass ≡ log true false [] []) × (arc_value w.thread.promise.0.value ≡ arc_value w.inbox) };
 }
 
-/// A worker at work, seen as the holding as it was lent, and the jobs that were sent since.
+/// A worker that has a holding, seen as the holding when it was lent, and the jobs that were sent since.
 #[derive(Drop)]
 pub struct Worker {
     inbox: Arc<Inbox, Global>,
     pass: QueuePass,
-    // Jobs that were not pushed yet.
+    // The jobs that were not pushed yet.
     held: Batch,
     // Whether no job was sent yet.
     is_fresh: bool,
@@ -94,9 +94,9 @@ impl Model for Worker {
 }
 
 impl Idle {
-    /// Makes the queue and what the thread shares, and then starts the thread, which writes its replies into the list
-    /// and tells each pop to the count. `Memory` where a growth was refused: no start was tried then. `Thread` where
-    /// the start was refused.
+    /// Makes the queue and what the thread shares with others, and then starts the thread, which writes its replies
+    /// into the list and announces each pop through the count. It returns `Memory` if the system refuses memory, before
+    /// it tries a start, and `Thread` if the system refuses the start.
     pub fn start<G: Gate + 'static, R: Threads + Wait + Copy + Send + Sync + 'static>(
         rt: &R,
         alloc: Global,
@@ -146,7 +146,7 @@ impl Idle {
         }
     }
 
-    /// Moves the holding in. It may wait.
+    /// Sends the holding to the worker. It may wait.
     pub fn begin<R: Wait>(self, rt: &R, holding: Box<Holding>) -> Worker
         requires { holding.value.desk.board ≡ self }
         ensures lent { result.lent ≡ holding.value }
@@ -186,7 +186,8 @@ fn hand_on<R: Wait>(rt: &R, inbox: &Inbox, pass: &mut QueuePass, held: &mut Batc
     inbox.push(rt, pass, Message::Do(batch));
 }
 
-/// Has room for one job more: where a whole message is held, it is pushed first, once there is a place. It may wait.
+/// Makes room for one more job. If a whole message is held, it is pushed first, once there is a place in the queue. It
+/// may wait.
 fn make_room<R: Wait>(rt: &R, inbox: &Inbox, pass: &mut QueuePass, held: &mut Batch)
     requires pass { IsPassOf inbox.now.queue pass.old }
     requires may { MaySend (view pass.old) held.old }
@@ -200,7 +201,8 @@ fn make_room<R: Wait>(rt: &R, inbox: &Inbox, pass: &mut QueuePass, held: &mut Ba
     }
 }
 
-/// Holds a numbered job. Where a whole message is held, it is pushed first, once there is a place. It may wait.
+/// Holds a numbered job. If a whole message is held, it is pushed first, once there is a place in the queue. It may
+/// wait.
 fn hold<R: Wait>(
     rt: &R,
     inbox: &Inbox,
@@ -222,7 +224,7 @@ fn hold<R: Wait>(
     held.push(Numbered { number, task });
 }
 
-/// Pushes the jobs that are held, where there is a place.
+/// Pushes the jobs that are held, if there is a place in the queue.
 #[inline(never)]
 fn offer(inbox: &Inbox, pass: &mut QueuePass, held: &mut Batch)
     requires pass { IsPassOf inbox.now.queue pass.old }
@@ -266,7 +268,8 @@ fn do_left<G: Gate>(
     }
 }
 
-/// Does what was pushed behind `Stop`, once the thread has ended: all that was sent is done then. It may wait.
+/// Does the jobs that were pushed behind `Stop`, once the thread has ended, so that all that was sent is done. It may
+/// wait.
 fn do_rest<G: Gate, R: Wait>(
     rt: &R,
     inbox: &Inbox,
@@ -296,13 +299,13 @@ fn do_rest<G: Gate, R: Wait>(
 }
 
 impl Worker {
-    /// Tells how many jobs are held.
+    /// Returns how many jobs are held.
     pub fn count_held(&self) -> usize {
         self.held.len()
     }
 
-    /// Sends a numbered job, as a task, of whose part the holding is: the first one is pushed at once, later ones are
-    /// held until a message is full. It may wait.
+    /// Sends a numbered job, as a task, on a subscriber of the holding's. The first job is pushed at once, and later
+    /// ones are held until they fill a message. It may wait.
     pub fn send<R: Wait>(&mut self, rt: &R, number: u64, task: Task)
         requires room { length self.old.jobs < MOST_PENDING }
         requires within { IsWithinJob self.old.lent (job_of task) }
@@ -330,22 +333,22 @@ impl Worker {
         hand_on(rt, &self.inbox, &mut self.pass, &mut self.held);
     }
 
-    /// Pushes the jobs that are held, where there is a place.
+    /// Pushes the jobs that are held, if there is a place in the queue.
     pub fn offer(&mut self)
         ensures { self.new ≡ self.old }
     {
         offer(&self.inbox, &mut self.pass, &mut self.held);
     }
 
-    /// Tells the worker to end, once it has done the jobs that were pushed. It may wait.
+    /// Tells the worker to end once it has done the jobs that were pushed. It may wait.
     pub fn stop<R: Wait>(&mut self, rt: &R)
         ensures { self.new ≡ self.old }
     {
         self.inbox.push(rt, &mut self.pass, Message::Stop);
     }
 
-    /// Ends the worker, once it was told to stop: the holding, and the replies to all its jobs, in the list that it
-    /// had. What it has left undone is done here. It may wait.
+    /// Ends a worker that was told to stop, does here what its thread has left undone, and returns the holding, and the
+    /// replies to all of its jobs in the list that it had. It may wait.
     pub fn join<G: Gate, R: Threads + Wait>(
         self,
         rt: &R,

@@ -1,4 +1,4 @@
-//! A register with the workers of its parts that are out.
+//! A register with the workers of its lent parts.
 ghost use Rattle.std.specs.Prelude.{◌≡◌, ◌<◌, ◌≤◌, ◌⊎◌, [], length, true, false, None, Some, IsSome, IfSome, IfOk, OnOk, OnErr, is_some, option_map, slice_get, slice_set, slice_index_or, vec_capacity};
 ghost use Rattle.std.specs.List.{AllByRecursion};
 ghost use Rattle.view_board.specs.Desks.{with_view};
@@ -33,14 +33,14 @@ use std::thread::Threads;
 use tatp_rows::Refusal;
 use view_board::Sight;
 
-/// The register, and for each part that is out its worker: seen as the register, with the parts that are out as they
-/// were lent, and the jobs that are out, by the numbers of their parts.
+/// The register, and the worker of each lent part. It is seen as the register, in which a lent part is as it was when
+/// it was lent, and the jobs that were sent to each lent part, by the parts' numbers.
 pub(crate) struct Workers {
     register: Register,
     by_part: ArrayVec<Option<Worker>, 16>,
-    // The lists that workers have had, for those that are started next.
+    // The lists of workers that have ended, which later workers use again.
     lists: ArrayVec<Option<EmptyList>, 16>,
-    // The count of pops that all workers share, once one was started.
+    // The count of pops that all workers share. It exists once a worker was started.
     pops: Option<Arc<EventCount, Global>>,
 }
 
@@ -57,7 +57,7 @@ impl Model for Workers {
     ghost invariant = { λ c. AllZip HasWorker (outs_in c.register.owners) c.by_part.items };
 }
 
-/// Takes the worker of a part away, if there is such a part, and it has one.
+/// Takes the worker of a part out of its place, if there is such a part and it has a worker.
 fn take_worker(by_part: &mut ArrayVec<Option<Worker>, 16>, part: u8) -> Option<Worker>
     ensures items { by_part.new.items ≡ slice_set by_part.old.items part None }
     ensures worker { result ≡ slice_index_or by_part.old.items part None }
@@ -68,7 +68,7 @@ fn take_worker(by_part: &mut ArrayVec<Option<Worker>, 16>, part: u8) -> Option<W
     by_part.as_mut_slice()[usize::from(part)].take()
 }
 
-/// Tells whether a part has a worker.
+/// Returns whether a part has a worker.
 fn has_worker(by_part: &ArrayVec<Option<Worker>, 16>, part: u8) -> bool
     requires { part < length by_part.now.items }
     ensures { result ≡ is_some (slice_index_or by_part.now.items part None) }
@@ -84,8 +84,8 @@ fn put_worker(by_part: &mut ArrayVec<Option<Worker>, 16>, part: u8, worker: Work
     by_part.as_mut_slice()[usize::from(part)] = Some(worker);
 }
 
-/// A list for the replies of a worker: one that another worker has had, or a new one. `Memory` where the growth for
-/// that was refused.
+/// Returns a list for the replies of a worker: one that an earlier worker had, or a new one. It returns `Memory` if the
+/// system refuses memory for a new one.
 fn list_for(
     lists: &mut ArrayVec<Option<EmptyList>, 16>,
     alloc: Global,
@@ -101,8 +101,8 @@ fn list_for(
     Ok(EmptyList { list })
 }
 
-/// The count of pops for a worker: that which the others have, or a new one. `Memory` where the growth for it was
-/// refused.
+/// Returns the count of pops for a worker: the one that the others have, or a new one. It returns `Memory` if the
+/// system refuses memory for a new one.
 fn pops_for(
     pops: &mut Option<Arc<EventCount, Global>>,
     alloc: Global,
@@ -125,7 +125,7 @@ fn pops_for(
     Ok(first)
 }
 
-/// The count of pops that all workers share, lent: none before a worker was started.
+/// Lends the count of pops that all workers share. There is none before a worker was started.
 fn lend_pops(pops: &Option<Arc<EventCount, Global>>) -> Option<&EventCount> {
     match pops {
         Some(pops) => Some(pops),
@@ -152,7 +152,7 @@ fn send_to<R: Wait>(
     }
 }
 
-/// Makes a place for the worker of a part that has come, and takes away that of one that has gone.
+/// Makes a place for the worker of a part that is new, and removes the place of one that was dissolved.
 fn part_workers(by_part: &mut ArrayVec<Option<Worker>, 16>, reply: &Reply)
     requires { IsPlace (part_change_of reply.now) (length by_part.old.items) }
     ensures { by_part.new.items ≡ with_part_change (part_change_of reply.now) None by_part.old.items }
@@ -166,7 +166,7 @@ fn part_workers(by_part: &mut ArrayVec<Option<Worker>, 16>, reply: &Reply)
     }
 }
 
-/// Pushes what the worker of a part holds, where there is a place in its queue.
+/// Pushes the jobs that the worker of a part holds, if there is a place in its queue.
 fn offer_at(by_part: &mut ArrayVec<Option<Worker>, 16>, part: usize)
     requires { part < length by_part.old.items }
     ensures { by_part.new.items ≡ by_part.old.items }
@@ -177,7 +177,7 @@ fn offer_at(by_part: &mut ArrayVec<Option<Worker>, 16>, part: usize)
     }
 }
 
-/// Pushes what the worker of a part holds, once there is a place in its queue. It may wait.
+/// Pushes the jobs that the worker of a part holds, once there is a place in its queue. It may wait.
 fn hand_on_at<R: Wait>(rt: &R, by_part: &mut ArrayVec<Option<Worker>, 16>, part: usize)
     requires { part < length by_part.old.items }
     ensures { by_part.new.items ≡ by_part.old.items }
@@ -199,7 +199,7 @@ fn stop_at<R: Wait>(rt: &R, by_part: &mut ArrayVec<Option<Worker>, 16>, part: us
     }
 }
 
-/// Pushes what each worker holds, where there is a place in its queue.
+/// Pushes the jobs that each worker holds, if there is a place in its queue.
 fn offer_all(by_part: &mut ArrayVec<Option<Worker>, 16>)
     ensures { by_part.new.items ≡ by_part.old.items }
 {
@@ -208,7 +208,7 @@ fn offer_all(by_part: &mut ArrayVec<Option<Worker>, 16>)
     }
 }
 
-/// Tells how many jobs the worker of a part holds.
+/// Returns how many jobs the worker of a part holds.
 fn count_held(by_part: &ArrayVec<Option<Worker>, 16>, part: usize) -> usize
     requires { part < length by_part.now.items }
 {
@@ -218,7 +218,7 @@ fn count_held(by_part: &ArrayVec<Option<Worker>, 16>, part: usize) -> usize
     }
 }
 
-/// Tells whether another worker than that of a part holds jobs.
+/// Returns whether any worker except that of this part holds jobs.
 fn do_others_hold(by_part: &ArrayVec<Option<Worker>, 16>, part: usize) -> bool {
     for other in 0..by_part.len() {
         if other != part && count_held(by_part, other) > 0 {
@@ -228,15 +228,15 @@ fn do_others_hold(by_part: &ArrayVec<Option<Worker>, 16>, part: usize) -> bool {
     false
 }
 
-/// Tells whether the worker of a part holds more jobs than so many, while another one holds some too.
+/// Returns whether the worker of a part holds more than `most` jobs, while another worker holds some too.
 fn must_offer(by_part: &ArrayVec<Option<Worker>, 16>, part: usize, most: usize) -> bool
     requires { part < length by_part.now.items }
 {
     count_held(by_part, part) > most && do_others_hold(by_part, part)
 }
 
-/// Pushes what all workers hold, where there is a place, and sleeps if that wasn't enough: a pop after this try ends
-/// the sleep, or keeps it from beginning. It may wait.
+/// Pushes the jobs that all workers hold, if there are places, and sleeps if that wasn't enough. A pop after this try
+/// ends the sleep, or keeps it from beginning. It may wait.
 fn offer_or_sleep<R: Wait>(
     rt: &R,
     by_part: &mut ArrayVec<Option<Worker>, 16>,
@@ -254,9 +254,9 @@ fn offer_or_sleep<R: Wait>(
     }
 }
 
-/// Pushes what all workers hold, where there is a place, until that of a part holds so many jobs at most, or no other
-/// one holds any: so nobody lacks a job that another part's gate may wait for, while the caller waits for a place. It
-/// spins for a while, then yields, and then sleeps. It may wait.
+/// Pushes the jobs that all workers hold, as places become free, until the worker of a part holds at most `most` jobs,
+/// or no other worker holds any. So, while the caller waits for a place, no worker lacks a job that the gate of another
+/// part may wait for. It spins for a while, then yields, and then sleeps. It may wait.
 #[inline(never)]
 fn offer_until<R: Wait>(
     rt: &R,
@@ -286,8 +286,8 @@ fn offer_until<R: Wait>(
     unreachable!()
 }
 
-/// Before one job more is sent to the worker of a part: where it holds a whole message, pushes what all workers hold,
-/// as above. It may wait.
+/// Makes sure that the worker of a part can hold one more job. If it holds a whole message, the jobs that all workers
+/// hold are pushed first, as `offer_until` does. It may wait.
 fn offer_before<R: Wait>(
     rt: &R,
     by_part: &mut ArrayVec<Option<Worker>, 16>,
@@ -302,7 +302,7 @@ fn offer_before<R: Wait>(
     }
 }
 
-/// Pushes what each worker holds, once there is a place in its queue. It may wait.
+/// Pushes the jobs that each worker holds, once there is a place in its queue. It may wait.
 fn hand_on_all<R: Wait>(
     rt: &R,
     by_part: &mut ArrayVec<Option<Worker>, 16>,
@@ -317,7 +317,7 @@ fn hand_on_all<R: Wait>(
 }
 
 impl Workers {
-    /// A register with all parts at home, and no worker.
+    /// Makes the workers of a register whose parts are all home, which are none yet.
     pub(crate) fn of(register: Register) -> Workers
         requires { AllHome register.owners }
         ensures register { result.register ≡ register }
@@ -337,8 +337,8 @@ impl Workers {
         }
     }
 
-    /// Tells the prover that each region has its owner beside it, and that a part that isn't out has no jobs. It does
-    /// nothing.
+    /// Tells the prover that each region and its owner have the same place in their lists, and that a part that is home
+    /// has no jobs. The call does nothing.
     #[inline(always)]
     pub(crate) fn rules(&self)
         ensures ruled { AreOwners self.now.register }
@@ -347,7 +347,7 @@ impl Workers {
         self.register.rules();
     }
 
-    /// Gives the register, with the parts that are out as they were lent.
+    /// Returns the register, in which a lent part is as it was when it was lent.
     pub(crate) fn register(&self) -> &Register
         ensures value { result.now ≡ self.now.register }
         ensures ruled { AreOwners self.now.register }
@@ -356,7 +356,7 @@ impl Workers {
         &self.register
     }
 
-    /// The register, once all parts are at home.
+    /// Returns the register. All parts must be home.
     pub(crate) fn into_register(self) -> Register
         requires { NoneOut self }
         ensures { result ≡ self.register }
@@ -370,8 +370,8 @@ impl Workers {
         register
     }
 
-    /// Has the holding of a part out, which is at home: a worker is started, and has it. `Memory` or `Thread` where no
-    /// worker could be started.
+    /// Lends the holding of a part that is home to a worker, which is started for it. It returns `Memory` or `Thread`
+    /// if no worker could be started.
     #[inline(never)]
     fn start<G: Gate + 'static, R: Threads + Wait + Copy + Send + Sync + 'static>(
         &mut self,
@@ -396,7 +396,8 @@ impl Workers {
         Ok(())
     }
 
-    /// Has the holding of a part out, wherever it is. `Memory` or `Thread` where no worker could be started.
+    /// Makes sure that the holding of a part is lent to a worker. It returns `Memory` or `Thread` if no worker could be
+    /// started.
     fn call_out<G: Gate + 'static, R: Threads + Wait + Copy + Send + Sync + 'static>(
         &mut self,
         rt: &R,
@@ -417,8 +418,8 @@ impl Workers {
         self.start(rt, alloc, gate, part)
     }
 
-    /// Sends a numbered job to the worker of a part, which is started for the first one. `Memory` or `Thread` where it
-    /// could not be started.
+    /// Sends a numbered job to the worker of a part, which is started for its first job. It returns `Memory` or
+    /// `Thread` if it could not be started.
     pub(crate) fn send<G: Gate + 'static, R: Threads + Wait + Copy + Send + Sync + 'static>(
         &mut self,
         rt: &R,
@@ -448,15 +449,15 @@ impl Workers {
         Ok(())
     }
 
-    /// Pushes the jobs that are held, where there is a place in their worker's queue.
+    /// Pushes the jobs that are held, if there are places in the queues of their workers.
     pub(crate) fn offer(&mut self)
         ensures { self.new ≡ self.old }
     {
         offer_all(&mut self.by_part);
     }
 
-    /// Pushes all jobs that are held: first where there is a place, and then wherever there is one in time. It may
-    /// wait.
+    /// Pushes all jobs that are held: first into queues that have a place, and then into the others once they have one.
+    /// It may wait.
     pub(crate) fn hand_on<R: Wait>(&mut self, rt: &R)
         ensures { self.new ≡ self.old }
     {
@@ -464,7 +465,7 @@ impl Workers {
         hand_on_all(rt, &mut self.by_part, lend_pops(&self.pops));
     }
 
-    /// Tells the worker of a part to stop, if there is such a part, and it is out. It may wait.
+    /// Tells the worker of a part to stop, if there is such a part and it is lent. It may wait.
     pub(crate) fn stop<R: Wait>(&mut self, rt: &R, part: u8)
         ensures { self.new ≡ self.old }
     {
@@ -482,7 +483,7 @@ impl Workers {
         }
     }
 
-    /// Tells the workers on both sides of each bound that a re-cut moves to stop. It may wait.
+    /// Tells the workers on both sides of each bound that a recut moves to stop. It may wait.
     pub(crate) fn stop_sides<R: Wait>(&mut self, rt: &R, moves: &[CutMove])
         ensures { self.new ≡ self.old }
     {
@@ -492,8 +493,8 @@ impl Workers {
         }
     }
 
-    /// Brings the holding of a part home, if there is such a part and it is out, with what it answered to its jobs. Its
-    /// worker was told to stop. It may wait.
+    /// Brings the holding of a part home, if there is such a part and it is lent, and returns the replies to its jobs.
+    /// Its worker must have been told to stop. It may wait.
     pub(crate) fn bring_home<G: Gate, R: Threads + Wait>(
         &mut self,
         rt: &R,
@@ -517,7 +518,7 @@ impl Workers {
         let _full = self.lists.try_push(Some(list));
     }
 
-    /// Has the register do an event; the parts that it works on are at home. The workers stay with their parts.
+    /// Has the register do an event. The parts on which it works must be home, and the workers stay with their parts.
     pub(crate) fn apply(&mut self, event: Event) -> Reply
         requires { IsHomeTo event self.old.register }
         ensures step { IsStepWhileOut event self.old.register result self.new.register }
@@ -531,7 +532,7 @@ impl Workers {
         reply
     }
 
-    /// Has the register move the bounds between parts; the parts on both sides of each are at home.
+    /// Has the register move the bounds between parts. The parts on both sides of each bound that moves must be home.
     pub(crate) fn recut_to(&mut self, bounds: &[u64]) -> Result<u8, Refusal>
         requires { IsHomeToCut bounds.now self.old.register }
         ensures recut { IsRecutWhileOut bounds.now self.old.register result self.new.register }
@@ -541,7 +542,7 @@ impl Workers {
         self.register.recut_to(bounds)
     }
 
-    /// A sight of the board's words, whoever is out.
+    /// Looks at the board, no matter which parts are lent, and returns a sight of its words.
     pub(crate) fn look(&mut self) -> Sight
         ensures right { IsSightOf (store_in self.old.register) result.words }
         ensures seen { self.new ≡ record self.old { register = record self.old.register { spare = with_view self.old.register.spare (looked self.old.register.spare.view result.words) } } }
