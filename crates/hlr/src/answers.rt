@@ -1,4 +1,4 @@
-//! The answers to reads, built from rows that the register lends.
+//! The replies to reads, built from rows that the register lends.
 ghost use Rattle.std.specs.Prelude.{Some, IfOk, IfErr};
 ghost use Rattle.csv.specs.Records.{fields_of};
 ghost use Rattle.hlr_owners.specs.Owners.{AllHome, store_in};
@@ -16,7 +16,7 @@ use csv::ByteRecord;
 use hlr_core::Register;
 use tatp_rows::{Access, Number, Refusal, Subscriber};
 
-/// Finds the row that `gsd,S` reads: `Syntax`, `Field`, `Moving`, `NoSubscriber`.
+/// Finds the row that `gsd,S` reads. Its refusals, in order, are `Syntax`, `Field`, `Moving`, and `NoSubscriber`.
 fn find_subscriber<'a>(row: &ByteRecord, register: &'a Register) -> Result<&'a Subscriber, Refusal>
     requires { AllHome register.now.owners }
     ensures found { IfOk result (λ found. CommandText (fields_of row.now) (command_named (Some word.Gsd) (fields_of row.now)) (store_in register.now) (subscriber_line found.now) (store_in register.now)) }
@@ -25,7 +25,7 @@ fn find_subscriber<'a>(row: &ByteRecord, register: &'a Register) -> Result<&'a S
     register.lend_subscriber(read_gsd(row)?)
 }
 
-/// Finds the row that `gad,S,ai_type` reads: `Syntax`, `Field`, `Moving`, `NoAccess`.
+/// Finds the row that `gad,S,ai_type` reads. Its refusals, in order, are `Syntax`, `Field`, `Moving`, and `NoAccess`.
 fn find_access<'a>(row: &ByteRecord, register: &'a Register) -> Result<&'a Access, Refusal>
     requires { AllHome register.now.owners }
     ensures found { IfOk result (λ found. CommandText (fields_of row.now) (command_named (Some word.Gad) (fields_of row.now)) (store_in register.now)
@@ -36,7 +36,8 @@ fn find_access<'a>(row: &ByteRecord, register: &'a Register) -> Result<&'a Acces
     register.lend_access(s_id, ai_type)
 }
 
-/// Finds the numbers that `gnd,S,sf_type,start_time,end_time` reads: `Syntax`, `Field`, `Moving`, `NoDestination`.
+/// Finds the numbers that `gnd,S,sf_type,start_time,end_time` reads. Its refusals, in order, are `Syntax`, `Field`,
+/// `Moving`, and `NoDestination`.
 fn find_numbers(row: &ByteRecord, register: &Register) -> Result<ArrayVec<Number, 3>, Refusal>
     requires { AllHome register.now.owners }
     ensures found { IfOk result (λ found. CommandText (fields_of row.now) (command_named (Some word.Gnd) (fields_of row.now)) (store_in register.now) (numbers_line found.items) (store_in register.now)) }
@@ -46,7 +47,7 @@ fn find_numbers(row: &ByteRecord, register: &Register) -> Result<ArrayVec<Number
     register.destinations(s_id, sf_type, start_time, end_time)
 }
 
-/// Puts the answer to a record whose word is `gsd`: `gsd,S`.
+/// Appends the reply to a record whose word is `gsd`: `gsd,S`.
 pub fn build_gsd(row: &ByteRecord, register: &Register, line: &mut Line)
     requires home { AllHome register.now.owners }
     requires room { HasRoom line.old.items }
@@ -58,7 +59,7 @@ pub fn build_gsd(row: &ByteRecord, register: &Register, line: &mut Line)
     }
 }
 
-/// Puts the answer to a record whose word is `gad`: `gad,S,ai_type`.
+/// Appends the reply to a record whose word is `gad`: `gad,S,ai_type`.
 pub fn build_gad(row: &ByteRecord, register: &Register, line: &mut Line)
     requires home { AllHome register.now.owners }
     requires room { HasRoom line.old.items }
@@ -76,7 +77,7 @@ pub fn build_gad(row: &ByteRecord, register: &Register, line: &mut Line)
     }
 }
 
-/// Puts the answer to a record whose word is `gnd`: `gnd,S,sf_type,start_time,end_time`.
+/// Appends the reply to a record whose word is `gnd`: `gnd,S,sf_type,start_time,end_time`.
 pub fn build_gnd(row: &ByteRecord, register: &Register, line: &mut Line)
     requires home { AllHome register.now.owners }
     requires room { HasRoom line.old.items }

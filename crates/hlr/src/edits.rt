@@ -1,4 +1,4 @@
-//! The records that change rows, done by the register's own calls.
+//! The records that change rows, each done by one call of the register.
 ghost use Rattle.std.specs.Prelude.{Some};
 ghost use Rattle.csv.specs.Records.{fields_of};
 ghost use Rattle.hlr_owners.specs.Owners.{AllHome, store_in};
@@ -15,7 +15,8 @@ use csv::ByteRecord;
 use hlr_core::Register;
 use tatp_rows::Refusal;
 
-/// Does `usd,S,sf_type,bit_1,data_a`: `Syntax`, `Field`, `Moving`, `NoSubscriber`, `NoFacility`.
+/// Does `usd,S,sf_type,bit_1,data_a`. Its refusals, in order, are `Syntax`, `Field`, `Moving`, `NoSubscriber`, and
+/// `NoFacility`.
 pub fn update_subscriber(row: &ByteRecord, register: &mut Register) -> Result<(), Refusal>
     requires { AllHome register.old.owners }
     ensures text { CommandText (fields_of row.now) (command_named (Some word.Usd) (fields_of row.now)) (store_in register.old) (reply_line (edited_reply result)) (store_in register.new) }
@@ -25,7 +26,7 @@ pub fn update_subscriber(row: &ByteRecord, register: &mut Register) -> Result<()
     register.update_subscriber(s_id, sf_type, bit_1, data_a)
 }
 
-/// Does `ul,N,vlr`: `Syntax`, `Field`, `NoNumber`, `Moving`.
+/// Does `ul,N,vlr`. Its refusals, in order, are `Syntax`, `Field`, `NoNumber`, and `Moving`.
 pub fn update_location(row: &ByteRecord, register: &mut Register) -> Result<(), Refusal>
     requires { AllHome register.old.owners }
     ensures text { CommandText (fields_of row.now) (command_named (Some word.Ul) (fields_of row.now)) (store_in register.old) (reply_line (edited_reply result)) (store_in register.new) }
@@ -35,8 +36,8 @@ pub fn update_location(row: &ByteRecord, register: &mut Register) -> Result<(), 
     register.update_location(sub_nbr, vlr_location)
 }
 
-/// Does `icf,N,sf_type,start_time,end_time,numberx`: `Syntax`, `Field`, `NoNumber`, `Moving`, `NoFacility`, `Exists`,
-/// `Memory`.
+/// Does `icf,N,sf_type,start_time,end_time,numberx`. Its refusals, in order, are `Syntax`, `Field`, `NoNumber`,
+/// `Moving`, `NoFacility`, `Exists`, and `Memory`.
 pub fn insert_forwarding(row: &ByteRecord, register: &mut Register) -> Result<(), Refusal>
     requires { AllHome register.old.owners }
     ensures text { CommandText (fields_of row.now) (command_named (Some word.Icf) (fields_of row.now)) (store_in register.old) (reply_line (edited_reply result)) (store_in register.new) }
@@ -46,7 +47,8 @@ pub fn insert_forwarding(row: &ByteRecord, register: &mut Register) -> Result<()
     register.insert_forwarding(sub_nbr, sf_type, start_time, end_time, numberx)
 }
 
-/// Does `dcf,N,sf_type,start_time`: `Syntax`, `Field`, `NoNumber`, `Moving`, `NoForwarding`.
+/// Does `dcf,N,sf_type,start_time`. Its refusals, in order, are `Syntax`, `Field`, `NoNumber`, `Moving`, and
+/// `NoForwarding`.
 pub fn delete_forwarding(row: &ByteRecord, register: &mut Register) -> Result<(), Refusal>
     requires { AllHome register.old.owners }
     ensures text { CommandText (fields_of row.now) (command_named (Some word.Dcf) (fields_of row.now)) (store_in register.old) (reply_line (edited_reply result)) (store_in register.new) }
@@ -56,7 +58,8 @@ pub fn delete_forwarding(row: &ByteRecord, register: &mut Register) -> Result<()
     register.delete_forwarding(sub_nbr, sf_type, start_time)
 }
 
-/// Does `sub,S,N,BITS,HEXES,BYTES,msc,vlr`: `Syntax`, `Field`, `Moving`, `Exists`, `NumberTaken`, `Memory`.
+/// Does `sub,S,N,BITS,HEXES,BYTES,msc,vlr`. Its refusals, in order, are `Syntax`, `Field`, `Moving`, `Exists`,
+/// `NumberTaken`, and `Memory`.
 pub fn add_subscriber(row: &ByteRecord, register: &mut Register) -> Result<(), Refusal>
     requires { AllHome register.old.owners }
     ensures text { CommandText (fields_of row.now) (command_named (Some word.Sub) (fields_of row.now)) (store_in register.old) (reply_line (edited_reply result)) (store_in register.new) }
@@ -66,7 +69,8 @@ pub fn add_subscriber(row: &ByteRecord, register: &mut Register) -> Result<(), R
     register.add_subscriber(subscriber)
 }
 
-/// Does `acc,S,ai_type,data1,data2,data3,data4`: `Syntax`, `Field`, `Moving`, `NoSubscriber`, `Exists`, `Memory`.
+/// Does `acc,S,ai_type,data1,data2,data3,data4`. Its refusals, in order, are `Syntax`, `Field`, `Moving`,
+/// `NoSubscriber`, `Exists`, and `Memory`.
 pub fn add_access(row: &ByteRecord, register: &mut Register) -> Result<(), Refusal>
     requires { AllHome register.old.owners }
     ensures text { CommandText (fields_of row.now) (command_named (Some word.Acc) (fields_of row.now)) (store_in register.old) (reply_line (edited_reply result)) (store_in register.new) }
@@ -76,8 +80,8 @@ pub fn add_access(row: &ByteRecord, register: &mut Register) -> Result<(), Refus
     register.add_access(access)
 }
 
-/// Does `fac,S,sf_type,is_active,error_cntrl,data_a,data_b`: `Syntax`, `Field`, `Moving`, `NoSubscriber`, `Exists`,
-/// `Memory`.
+/// Does `fac,S,sf_type,is_active,error_cntrl,data_a,data_b`. Its refusals, in order, are `Syntax`, `Field`, `Moving`,
+/// `NoSubscriber`, `Exists`, and `Memory`.
 pub fn add_facility(row: &ByteRecord, register: &mut Register) -> Result<(), Refusal>
     requires { AllHome register.old.owners }
     ensures text { CommandText (fields_of row.now) (command_named (Some word.Fac) (fields_of row.now)) (store_in register.old) (reply_line (edited_reply result)) (store_in register.new) }
@@ -87,7 +91,7 @@ pub fn add_facility(row: &ByteRecord, register: &mut Register) -> Result<(), Ref
     register.add_facility(facility)
 }
 
-/// Does `active,S,sf_type,is_active`: `Syntax`, `Field`, `Moving`, `NoFacility`.
+/// Does `active,S,sf_type,is_active`. Its refusals, in order, are `Syntax`, `Field`, `Moving`, and `NoFacility`.
 pub fn set_active(row: &ByteRecord, register: &mut Register) -> Result<(), Refusal>
     requires { AllHome register.old.owners }
     ensures text { CommandText (fields_of row.now) (command_named (Some word.Active) (fields_of row.now)) (store_in register.old) (reply_line (edited_reply result)) (store_in register.new) }
@@ -97,7 +101,8 @@ pub fn set_active(row: &ByteRecord, register: &mut Register) -> Result<(), Refus
     register.set_active(s_id, sf_type, is_active)
 }
 
-/// Does `number,S,N`: `Syntax`, `Field`, `Moving`, `NoSubscriber`, `NumberTaken`, `Memory`.
+/// Does `number,S,N`. Its refusals, in order, are `Syntax`, `Field`, `Moving`, `NoSubscriber`, `NumberTaken`, and
+/// `Memory`.
 pub fn set_number(row: &ByteRecord, register: &mut Register) -> Result<(), Refusal>
     requires { AllHome register.old.owners }
     ensures text { CommandText (fields_of row.now) (command_named (Some word.Number) (fields_of row.now)) (store_in register.old) (reply_line (edited_reply result)) (store_in register.new) }

@@ -1,4 +1,4 @@
-//! The records that ask for events: the fields of each, and the event that they ask for.
+//! The records that ask for events, with the fields of each, and the event that it asks for.
 ghost use Rattle.std.specs.Prelude.{◌≡◌, Some};
 ghost use Rattle.csv.specs.Records.{fields_of};
 ghost use Rattle.hlr_core.specs.declared.event.Event.TheVariants as event;
@@ -353,7 +353,7 @@ fn fac_event(row: &ByteRecord) -> Result<Event, Refusal>
     Ok(Event::AddFacility(read_fac(row)?))
 }
 
-/// Makes the event that a record asks for whose word asks for one.
+/// Makes the event for which a record asks, if its word is one that asks for an event.
 pub fn event_of(word: Word, row: &ByteRecord) -> Result<Event, Refusal>
     requires { kind_of word ≡ kind.Event }
     ensures { command_named (Some word) (fields_of row.now) ≡ asks (λ e. e) result }

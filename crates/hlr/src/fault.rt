@@ -1,4 +1,4 @@
-//! Why a run ended early.
+//! The faults that end a run early.
 ghost use Rattle.std.specs.Prelude.{◌≡◌};
 ghost use Rattle.csv.specs.Reading.{error_kind};
 ghost use Rattle.hlr.specs.Fault.{fault_code, fault_words, read_fault_of};
@@ -6,19 +6,19 @@ ghost use Rattle.hlr.specs.Fault.{fault_code, fault_words, read_fault_of};
 use csv::ErrorKind;
 use thiserror::Error;
 
-/// Why a run ended early. No store is left after it.
+/// A fault that ended a run early. No store is left after it.
 #[derive(Clone, Copy, Debug, PartialEq, Eq, Error)]
 pub enum Fault {
-    /// A growth of memory was refused.
+    /// The system refused memory.
     #[error("no memory")]
     Memory,
     /// An option is out of its range.
     #[error("bad option")]
     Field,
-    /// A thread's start was refused.
+    /// The system refused to start a thread.
     #[error("no thread")]
     Thread,
-    /// The reader failed, or gave more than 1,048,576 records.
+    /// The reader failed, or had more than 1,048,576 records.
     #[error("read fault")]
     Read,
     /// The sink failed.
@@ -27,7 +27,7 @@ pub enum Fault {
 }
 
 impl Fault {
-    /// Gives the number of the fault: 1, 2, 18, 20 or 21.
+    /// Returns the number of the fault: 1, 2, 18, 20 or 21.
     pub fn code(self) -> u8
         ensures { result ≡ fault_code self }
     {
@@ -40,7 +40,7 @@ impl Fault {
         }
     }
 
-    /// Gives what the program says of the fault.
+    /// Returns what the program says of the fault.
     pub fn words(self) -> &'static str
         ensures { result.now ≡ fault_words self }
     {
@@ -54,7 +54,7 @@ impl Fault {
     }
 }
 
-/// Tells which fault a failed read of a record is: `Memory` where memory was wanted, else `Read`.
+/// Returns the fault of a failed read of a record: `Memory` if memory was refused, and otherwise `Read`.
 pub fn read_fault(error: csv::Error) -> Fault
     ensures { result ≡ read_fault_of (error_kind error) }
 {

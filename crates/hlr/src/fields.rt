@@ -1,4 +1,4 @@
-//! What the fields of a command spell.
+//! The numbers, digits and letters that the fields of a command spell.
 ghost use Rattle.std.specs.Prelude.{◌≡◌, ℕ, ◌<◌, length};
 ghost use Rattle.std.specs.List.{EachIndex};
 ghost use Rattle.std.specs.Prelude.{slice_index};
@@ -28,15 +28,15 @@ fn parse_long(text: &[u8]) -> Result<u64, Refusal>
     Ok(value)
 }
 
-/// Reads the number that a field spells: one or more ASCII digits, leading zeros allowed, with a value of at most
-/// 2^64 - 1. A sign, a space, any other byte or an empty field is `Field`.
+/// Reads the number that a field spells in one or more ASCII digits, of which the first may be zeros. It returns
+/// `Field` if the value is above 2^64 - 1, if the field is empty, or if it has a sign, a space or any other byte.
 pub fn parse_number(text: &[u8]) -> Result<u64, Refusal>
     ensures { result ≡ number_field text.now }
 {
     if text.is_empty() {
         return Err(Refusal::Field);
     }
-    // 19 digits always fit.
+    // A number of 19 digits always fits.
     if text.len() > 19 {
         return parse_long(text);
     }
@@ -51,7 +51,7 @@ pub fn parse_number(text: &[u8]) -> Result<u64, Refusal>
     Ok(value)
 }
 
-/// Reads the byte that a field spells: a number of at most 255. Anything else is `Field`.
+/// Reads the byte that a field spells, which is a number of at most 255. It returns `Field` for anything else.
 pub fn parse_byte(text: &[u8]) -> Result<u8, Refusal>
     ensures { result ≡ byte_field text.now }
 {
@@ -61,7 +61,7 @@ pub fn parse_byte(text: &[u8]) -> Result<u8, Refusal>
     }
 }
 
-/// Gives the value of a digit or a letter, from 0 for `0` to 35 for `z` and `Z`, and 36 for any other byte.
+/// Returns the value of a digit or a letter, from 0 for `0` to 35 for `z` and `Z`, and 36 for any other byte.
 fn digit_value(byte: u8) -> u8
     ensures { result ≡ digit_value byte }
 {
@@ -76,8 +76,8 @@ fn digit_value(byte: u8) -> u8
     }
 }
 
-/// Reads the `N` digits that a field spells, each below `limit`; the digits above 9 are letters of either case. Another
-/// length or any other byte is `Field`.
+/// Reads the `N` digits that a field spells, each below `limit`. The digits above 9 are letters of either case. It
+/// returns `Field` if the field has another length or any other byte.
 pub fn parse_digits<const N: usize>(text: &[u8], limit: u8) -> Result<[u8; N], Refusal>
     ensures { result ≡ digits_field limit N text.now }
 {
@@ -107,7 +107,8 @@ fn pair_digits(digits: &[u8; 20]) -> [u8; 10]
     bytes
 }
 
-/// Reads the ten bytes that a field spells in twenty hexadecimal digits of either case; anything else is `Field`.
+/// Reads the ten bytes that a field spells in twenty hexadecimal digits of either case. It returns `Field` for anything
+/// else.
 pub fn parse_bytes(text: &[u8]) -> Result<[u8; 10], Refusal>
     ensures { result ≡ bytes_field text.now }
 {

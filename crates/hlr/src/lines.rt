@@ -1,4 +1,4 @@
-//! The lines of the answers.
+//! The lines of replies.
 ghost use Rattle.std.specs.Prelude.{◌≡◌, ◌≤◌, ◌<◌, ◌+◌, ◌*◌, ◌++◌, ◌∷◌, [], length, decimal, nat_le};
 ghost use Rattle.std.specs.Fmt.{signed_decimal};
 ghost use Rattle.tatp_rows.specs.Number.{number_text};
@@ -14,24 +14,24 @@ use std::marker::Model;
 use tatp_actions::{CELLS, RowReply};
 use tatp_rows::{Letters, Number, Refusal, Subscriber};
 
-/// The most bytes that the line of a cell, of a pair or of a region takes.
+/// The most bytes that the line of a cell, of a number with its subscriber, or of a region takes.
 pub const SHORT_LINE: usize = 70;
 
-/// The most bytes that are put before it is asked again whether there is room: the lines of all cells, and how many
-/// they are.
+/// The most bytes that are appended between two tests for room. They are the lines of all cells, and the line that
+/// counts them.
 const LINE_ROOM: usize = SHORT_LINE * (CELLS as usize + 1);
 
-/// How many bytes may be there when a line is begun; where there are more, they are handed on first.
+/// How many bytes may wait when a line is begun. If there are more, they are handed on first.
 pub const LINE_LIMIT: usize = 65_536;
 
-// The number that the definition of a line means.
+// The definition of a line uses this number.
 const _: () = prove!(LINE_LIMIT == 65_536);
 
 /// How many bytes there is room for.
 const LINE_SPACE: usize = LINE_LIMIT + LINE_ROOM;
 
-/// The lines that aren't handed on yet, and behind them the one that is built. They take no memory: their bytes lie in
-/// the value itself, whence they go out.
+/// The lines that aren't handed on yet, and behind them the line that is being built. They take no memory, because
+/// their bytes lie in the value itself, from where they go to the sink.
 #[derive(Drop)]
 pub struct Line {
     bytes: [u8; LINE_SPACE],
@@ -50,7 +50,7 @@ impl Model for Line {
     ghost invariant = { λ l. l.len ≤ LINE_SPACE };
 }
 
-/// Makes room for lines, with none in it.
+/// Makes room for lines, and leaves it empty.
 #[inline(always)]
 pub fn empty_line() -> Line
     ensures { result.items ≡ [] }
@@ -62,7 +62,7 @@ pub fn empty_line() -> Line
 }
 
 impl Line {
-    /// Gives what was put.
+    /// Returns the bytes that were appended.
     #[inline(always)]
     pub fn as_slice(&self) -> &[u8]
         ensures { result.now ≡ self.now.items }
@@ -70,7 +70,7 @@ impl Line {
         &self.bytes[..self.len]
     }
 
-    /// Tells whether it is short enough to be built on.
+    /// Returns whether a further line may be begun.
     #[inline(always)]
     pub fn has_room(&self) -> bool
         ensures { result ≡ nat_le (length self.now.items) LINE_LIMIT }
@@ -78,7 +78,7 @@ impl Line {
         self.len <= LINE_LIMIT
     }
 
-    /// Takes all away.
+    /// Removes all lines.
     #[inline(always)]
     pub fn clear(&mut self)
         ensures { self.new.items ≡ [] }
@@ -86,7 +86,7 @@ impl Line {
         self.len = 0;
     }
 
-    /// Puts bytes behind.
+    /// Appends bytes.
     #[inline(always)]
     pub fn put(&mut self, bytes: &[u8])
         requires { length self.old.items + length bytes.now ≤ LINE_SPACE }
@@ -99,7 +99,7 @@ impl Line {
         self.len = end;
     }
 
-    /// Puts a byte behind.
+    /// Appends a byte.
     #[inline(always)]
     fn put_byte(&mut self, byte: u8)
         requires { length self.old.items < LINE_SPACE }
@@ -111,7 +111,7 @@ impl Line {
         self.len = at + 1;
     }
 
-    /// Puts a word of a fixed length behind, byte by byte, so that it is compiled into stores.
+    /// Appends a word of a fixed length, byte by byte, so that the compiler turns it into stores.
     #[inline(always)]
     fn put_word<const N: usize>(&mut self, word: &[u8; N])
         requires { length self.old.items + N ≤ LINE_SPACE }
@@ -123,7 +123,7 @@ impl Line {
         }
     }
 
-    /// Puts the digits of a number behind; the caller tells how many they are.
+    /// Appends the digits of a number. The caller says how many there are.
     #[inline(always)]
     fn put_digits(&mut self, n: u64, count: usize)
         requires count { count ≡ length (decimal n) }
@@ -136,14 +136,14 @@ impl Line {
         self.len = end;
     }
 
-    /// Puts a number in decimal behind.
+    /// Appends a number in decimal.
     #[inline(always)]
     fn put_decimal(&mut self, n: u64)
         requires { length self.old.items + 20 ≤ LINE_SPACE }
         ensures bytes { self.new.items ≡ self.old.items ++ decimal n }
         ensures len { length self.new.items ≤ length self.old.items + 20 }
     {
-        // Where the count is a literal, what writes longer numbers is compiled away.
+        // The code for longer numbers is compiled away wherever the count is a literal.
         if n < 10 {
             return self.put_digits(n, 1);
         }
@@ -156,7 +156,7 @@ impl Line {
         self.put_digits(n, n.ilog10() as usize + 1);
     }
 
-    /// Puts a number in decimal behind, with `-` before it where it is negative.
+    /// Appends a number in decimal, with `-` before it if it is negative.
     #[inline(always)]
     fn put_signed(&mut self, n: i64)
         requires { length self.old.items + 21 ≤ LINE_SPACE }
@@ -170,7 +170,7 @@ impl Line {
         self.put_decimal(n.unsigned_abs());
     }
 
-    /// Puts the digits of a number behind, 15 at least: zeros, and the number's own over the last of them.
+    /// Appends the digits of a number, at least 15 of them, with zeros in front.
     #[inline(always)]
     fn put_number(&mut self, n: u64)
         requires { length self.old.items + 20 ≤ LINE_SPACE }
@@ -185,7 +185,7 @@ impl Line {
     }
 }
 
-/// Gives the hexadecimal digit of a byte's lowest four bits, in lower case.
+/// Returns the hexadecimal digit of a byte's lowest four bits, in lower case.
 fn hex_digit(byte: u8) -> u8
     ensures { result ≡ hex_digit byte }
 {
@@ -197,7 +197,7 @@ fn hex_digit(byte: u8) -> u8
     }
 }
 
-/// Puts one hexadecimal digit for each number behind.
+/// Appends one hexadecimal digit for each number.
 fn put_hexes(line: &mut Line, digits: &[u8])
     requires { length line.old.items + length digits.now ≤ LINE_SPACE }
     ensures bytes { line.new.items ≡ line.old.items ++ hexes_text digits.now }
@@ -208,7 +208,7 @@ fn put_hexes(line: &mut Line, digits: &[u8])
     }
 }
 
-/// Puts two hexadecimal digits for each byte behind.
+/// Appends two hexadecimal digits for each byte.
 fn put_bytes(line: &mut Line, bytes: &[u8])
     requires { length line.old.items + 2 * length bytes.now ≤ LINE_SPACE }
     ensures bytes { line.new.items ≡ line.old.items ++ bytes_text bytes.now }
@@ -220,7 +220,7 @@ fn put_bytes(line: &mut Line, bytes: &[u8])
     }
 }
 
-/// Puts the line of what was done.
+/// Appends the line `ok`.
 pub fn build_ok(line: &mut Line)
     requires { HasRoom line.old.items }
     ensures { line.new.items ≡ line.old.items ++ ok_line }
@@ -228,7 +228,7 @@ pub fn build_ok(line: &mut Line)
     line.put_word(b"ok\n");
 }
 
-/// Puts the line of a refusal.
+/// Appends the line of a refusal.
 #[tactic(auto, unfolding(crate::specs::Lines::refused_line))]
 pub fn build_refused(line: &mut Line, why: Refusal)
     requires { HasRoom line.old.items }
@@ -241,7 +241,7 @@ pub fn build_refused(line: &mut Line, why: Refusal)
     line.put_byte(b'\n');
 }
 
-/// Puts the line of a Subscriber row.
+/// Appends the line of a Subscriber row.
 #[tactic(auto, unfolding(crate::specs::Lines::subscriber_line))]
 pub fn build_subscriber(line: &mut Line, row: &Subscriber)
     requires { HasRoom line.old.items }
@@ -264,7 +264,7 @@ pub fn build_subscriber(line: &mut Line, row: &Subscriber)
     line.put_byte(b'\n');
 }
 
-/// Puts the numbers of a list behind, each after a comma.
+/// Appends the numbers of a list, each after a comma.
 fn put_numbers(line: &mut Line, numbers: &[Number])
     requires { length line.old.items + 21 * length numbers.now ≤ LINE_SPACE }
     ensures bytes { line.new.items ≡ line.old.items ++ numbers_text numbers.now }
@@ -276,7 +276,7 @@ fn put_numbers(line: &mut Line, numbers: &[Number])
     }
 }
 
-/// Puts the line of the numbers that were found.
+/// Appends the line of the numbers that were found.
 #[tactic(auto, unfolding(crate::specs::Lines::numbers_line))]
 pub fn build_numbers(line: &mut Line, numbers: &ArrayVec<Number, 3>)
     requires { HasRoom line.old.items }
@@ -287,7 +287,7 @@ pub fn build_numbers(line: &mut Line, numbers: &ArrayVec<Number, 3>)
     line.put_byte(b'\n');
 }
 
-/// Puts the line of an access: data1 to data4.
+/// Appends the line of an access, with data1 to data4.
 #[tactic(auto, unfolding(crate::specs::Lines::access_line))]
 pub fn build_access(line: &mut Line, data1: u8, data2: u8, data3: Letters<3>, data4: Letters<5>)
     requires { HasRoom line.old.items }
@@ -304,7 +304,7 @@ pub fn build_access(line: &mut Line, data1: u8, data2: u8, data3: Letters<3>, da
     line.put_byte(b'\n');
 }
 
-/// Puts the line of a word, which ends with a comma, and a count.
+/// Appends a line of a word, which ends with a comma, and a count.
 #[tactic(auto, unfolding(crate::specs::Lines::total_line))]
 pub fn build_total(line: &mut Line, word: &[u8], count: u64)
     requires { (length word.now ≤ 8) × (length line.old.items + SHORT_LINE ≤ LINE_SPACE) }
@@ -315,7 +315,7 @@ pub fn build_total(line: &mut Line, word: &[u8], count: u64)
     line.put_byte(b'\n');
 }
 
-/// Puts the line of a cell behind: its published and its unposted count.
+/// Appends the line of a cell, with its published and its unposted count.
 #[tactic(auto, unfolding(crate::specs::Lines::cell_line))]
 pub fn put_cell(line: &mut Line, cell: u64, published: i64, unposted: i64)
     requires { length line.old.items + SHORT_LINE ≤ LINE_SPACE }
@@ -331,7 +331,7 @@ pub fn put_cell(line: &mut Line, cell: u64, published: i64, unposted: i64)
     line.put_byte(b'\n');
 }
 
-/// Puts the line of a cell counted over the rows behind.
+/// Appends the line of a cell and its count over the rows.
 #[tactic(auto, unfolding(crate::specs::Lines::counted_line))]
 pub fn put_counted(line: &mut Line, cell: u64, count: u64)
     requires { length line.old.items + SHORT_LINE ≤ LINE_SPACE }
@@ -345,7 +345,7 @@ pub fn put_counted(line: &mut Line, cell: u64, count: u64)
     line.put_byte(b'\n');
 }
 
-/// Puts the line of a number and the subscriber who has it behind.
+/// Appends the line of a number and the subscriber who has it.
 #[tactic(auto, unfolding(crate::specs::Lines::number_line))]
 pub fn put_pair(line: &mut Line, number: u64, s_id: u32)
     requires { length line.old.items + SHORT_LINE ≤ LINE_SPACE }
@@ -359,7 +359,7 @@ pub fn put_pair(line: &mut Line, number: u64, s_id: u32)
     line.put_byte(b'\n');
 }
 
-/// Puts a part or a loose piece behind, by its number.
+/// Appends a part or a loose piece, by its number.
 fn put_place(line: &mut Line, place: Place)
     requires { length line.old.items + 26 ≤ LINE_SPACE }
     ensures bytes { line.new.items ≡ line.old.items ++ place_text place }
@@ -377,7 +377,7 @@ fn put_place(line: &mut Line, place: Place)
     }
 }
 
-/// Puts the line of a region: who has it, and where it begins and ends.
+/// Appends the line of a region, with its owner, and where it begins and ends.
 #[tactic(auto, unfolding(crate::specs::Lines::region_line))]
 pub fn build_region(line: &mut Line, region: &Region)
     requires { HasRoom line.old.items }
@@ -391,7 +391,7 @@ pub fn build_region(line: &mut Line, region: &Region)
     line.put_byte(b'\n');
 }
 
-/// Puts the line of a loose piece that a part took.
+/// Appends the line of a loose piece that a part took.
 #[tactic(auto, unfolding(crate::specs::Lines::taken_line))]
 pub fn build_taken(line: &mut Line, piece: u8, part: u8)
     requires { HasRoom line.old.items }
@@ -404,8 +404,8 @@ pub fn build_taken(line: &mut Line, piece: u8, part: u8)
     line.put_byte(b'\n');
 }
 
-/// Puts the line of a part that came, or has the rows of one that went: a word, which ends with a comma, the part's
-/// number, and where it begins and ends.
+/// Appends the line of a part that is new, or that got the rows of a dissolved one. It has a word, which ends with a
+/// comma, the number of the part, and where the part begins and ends.
 #[tactic(auto, unfolding(crate::specs::Lines::part_change_line))]
 pub fn build_part_change(line: &mut Line, word: &[u8], part: u8, lo: u32, hi: u32)
     requires short { length word.now ≤ 10 }
@@ -421,7 +421,7 @@ pub fn build_part_change(line: &mut Line, word: &[u8], part: u8, lo: u32, hi: u3
     line.put_byte(b'\n');
 }
 
-/// Puts bounds between parts behind, each after a comma.
+/// Appends bounds between parts, each after a comma.
 fn put_bounds(line: &mut Line, bounds: &Bounds)
     requires { length line.old.items + 315 ≤ LINE_SPACE }
     ensures bytes { line.new.items ≡ line.old.items ++ decimals_text bounds.now }
@@ -434,7 +434,7 @@ fn put_bounds(line: &mut Line, bounds: &Bounds)
     }
 }
 
-/// Puts the line of bounds between parts.
+/// Appends the line of bounds between parts.
 #[tactic(auto, unfolding(crate::specs::Lines::bounds_line))]
 pub fn build_bounds(line: &mut Line, bounds: &Bounds)
     requires { HasRoom line.old.items }
@@ -445,7 +445,7 @@ pub fn build_bounds(line: &mut Line, bounds: &Bounds)
     line.put_byte(b'\n');
 }
 
-/// Puts the line of a re-cut: how many bounds were moved, or its refusal.
+/// Appends the line of a recut, with the number of bounds that were moved, or the line of its refusal.
 pub fn build_recut(line: &mut Line, answer: Result<u8, Refusal>)
     requires { HasRoom line.old.items }
     ensures { line.new.items ≡ line.old.items ++ recut_line answer }
@@ -456,7 +456,7 @@ pub fn build_recut(line: &mut Line, answer: Result<u8, Refusal>)
     }
 }
 
-/// Puts the line of the rows' answer.
+/// Appends the line of a reply of the rows.
 fn build_row_reply(line: &mut Line, reply: &RowReply)
     requires { HasRoom line.old.items }
     ensures { line.new.items ≡ line.old.items ++ row_reply_line reply.now }
@@ -475,7 +475,7 @@ fn build_row_reply(line: &mut Line, reply: &RowReply)
     }
 }
 
-/// Puts the line of what was done, or refused.
+/// Appends the line `ok`, or the line of a refusal.
 pub fn build_done(line: &mut Line, done: Result<(), Refusal>)
     requires { HasRoom line.old.items }
     ensures { line.new.items ≡ line.old.items ++ reply_line (edited_reply done) }
@@ -486,7 +486,7 @@ pub fn build_done(line: &mut Line, done: Result<(), Refusal>)
     }
 }
 
-/// Puts the line of a reply.
+/// Appends the line of a reply.
 pub fn build_reply(line: &mut Line, reply: &Reply)
     requires { HasRoom line.old.items }
     ensures { line.new.items ≡ line.old.items ++ reply_line reply.now }

@@ -1,6 +1,6 @@
-//! A home location register: command records on standard input, an answer for each on standard output. A record costs
-//! its reading by `csv` and its event, and its answer waits for no later record. All rows are in memory alone, and gone
-//! when the program ends.
+//! A home location register that reads commands from standard input, and writes a reply to each to standard output. A
+//! record costs its reading by `csv` and its event, and its reply waits for no later record. All rows are in memory
+//! alone, and are lost when the program ends.
 #![tactic(auto)]
 
 mod answers;
@@ -32,14 +32,15 @@ use std::process::ExitCode;
 use std::sync::Wait;
 use std::thread::Threads;
 
-/// Says a fault on standard error, and gives the program's status after it.
+/// Writes the line of a fault to standard error, and returns the program's status for it.
 fn fail(rt: &impl Eprint, fault: Fault) -> ExitCode {
     let words = fault.words();
     let _ = eprintln!(rt; "hlr: {words}");
     ExitCode::FAILURE
 }
 
-/// Says a refusal of the options: help on standard output, any other on standard error.
+/// Writes why the options were refused: to standard output if help or the version was asked for, and otherwise to
+/// standard error.
 fn refuse<R: Print + Eprint>(rt: &R, error: &clap::Error) -> ExitCode {
     if error.kind() == ErrorKind::OutOfMemory {
         return fail(rt, Fault::Memory);
@@ -54,7 +55,7 @@ fn refuse<R: Print + Eprint>(rt: &R, error: &clap::Error) -> ExitCode {
     }
 }
 
-/// Reads the words that the program was started with.
+/// Reads the words with which the program was started.
 #[inline(never)]
 fn words_of<R: Env + AllocGlobal + Eprint>(rt: &R) -> Result<Vec<String>, ExitCode> {
     match env::args(rt) {
@@ -69,7 +70,7 @@ fn words_of<R: Env + AllocGlobal + Eprint>(rt: &R) -> Result<Vec<String>, ExitCo
     }
 }
 
-/// Reads the options that the words ask for.
+/// Reads the options from these words.
 #[inline(never)]
 fn options_of<R: AllocGlobal + Print + Eprint>(
     rt: &R,
@@ -84,8 +85,8 @@ fn options_of<R: AllocGlobal + Print + Eprint>(
     read_options(rt.alloc(), texts.as_slice()).map_err(|error| refuse(rt, &error))
 }
 
-/// Answers standard input on standard output. The answers so far are flushed before a read that may wait, and at the
-/// end, but after `Field` and `Write`.
+/// Replies to standard input on standard output. The replies so far are flushed before a read that may wait, and at the
+/// end, unless the run ended with `Field` or `Write`.
 #[inline(never)]
 fn answer_input<R: AllocGlobal + Input + Print + Threads + Wait + Copy + Send + Sync + 'static>(
     rt: &R,

@@ -169,7 +169,7 @@ fn read_zone(matches: &ArgMatches<'_>) -> Option<u32>
     matches.get_one::<u32>("zone")
 }
 
-/// Tells whether `--threads` is given.
+/// Returns whether `--threads` is given.
 fn read_threads(matches: &ArgMatches<'_>) -> Option<bool>
     ensures { IfSome result (Tells (one_of (codes "threads") (rows_of (found_of matches.now)))) }
 {

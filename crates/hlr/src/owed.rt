@@ -1,4 +1,4 @@
-//! A run with threads: an engine takes the events, and their answers are owed until they are settled.
+//! A run with threads, in which an engine takes the events. Their replies are owed until the engine is settled.
 ghost use Rattle.std.specs.Prelude.{◌≡◌, ◌≢◌, ◌⊎◌, ◌<◌, [], List, ℕ, Bool, Option, true, Some, Ok, Err, IfSome, OnErr, OnOk, MatchResult, length};
 ghost use Rattle.csv.specs.Records.{fields_of};
 ghost use Rattle.csv.specs.declared.parser.State.TheVariants as state;
@@ -28,7 +28,7 @@ use std::sync::Wait;
 use std::thread::Threads;
 use tatp_rows::Refusal;
 
-/// A gate that holds nobody up.
+/// A gate that holds no job up.
 #[derive(Drop)]
 pub struct OpenGate;
 
@@ -54,7 +54,7 @@ fn write_replies<S: Sink>(
     make_room(line, sink)
 }
 
-/// Settles an engine, and writes the answers that are owed, in order. It leaves room for a further line.
+/// Settles an engine, and writes the replies that are owed, in order. It leaves room for a further line.
 fn write_owed<H: Threads + Wait, S: Sink>(
     rt: &H,
     engine: &mut Engine<OpenGate>,
@@ -70,7 +70,7 @@ fn write_owed<H: Threads + Wait, S: Sink>(
     write_replies(replies.as_slice(), line, sink)
 }
 
-/// Takes an event, whose answer is owed then.
+/// Takes an event, whose reply is owed from then on.
 fn owe_event<H: Threads + Wait + Copy + Send + Sync + 'static>(
     rt: &H,
     event: Event,
@@ -87,7 +87,7 @@ fn owe_event<H: Threads + Wait + Copy + Send + Sync + 'static>(
     }
 }
 
-/// Answers a record that is no command by its refusal, once nothing is owed.
+/// Replies to a record that is no command with its refusal, once no reply is owed.
 fn refuse<H: Threads + Wait, S: Sink>(
     rt: &H,
     why: Refusal,
@@ -103,7 +103,7 @@ fn refuse<H: Threads + Wait, S: Sink>(
     Ok(())
 }
 
-/// Answers a record whose word is that of a report, once nothing is owed.
+/// Replies to a record that asks for a report, once no reply is owed.
 fn report<H: Threads + Wait, S: Sink>(
     rt: &H,
     report: Report,
@@ -119,9 +119,10 @@ fn report<H: Threads + Wait, S: Sink>(
     answer_report(report, row, engine.register(), line, sink)
 }
 
-/// Has an engine at rest do a re-cut, and builds the answer: by how many bounds it moved, or why it was refused.
+/// Has an engine without pending events do a recut, and builds the reply: how many bounds it moved, or why it was
+/// refused.
 ///
-/// It is not inlined: its list of bounds would be filled with zeros in each answer to an event.
+/// The function is not inlined, because its list of bounds would otherwise be filled with zeros for each event.
 #[inline(never)]
 fn build_recut_by<H: Threads + Wait>(
     rt: &H,
@@ -144,7 +145,7 @@ fn build_recut_by<H: Threads + Wait>(
     }
 }
 
-/// Answers a re-cut, once nothing is owed.
+/// Replies to a recut, once no reply is owed.
 fn recut<H: Threads + Wait, S: Sink>(
     rt: &H,
     row: &ByteRecord,
@@ -160,7 +161,7 @@ fn recut<H: Threads + Wait, S: Sink>(
     Ok(())
 }
 
-/// The fault that a sink's is.
+/// Returns the fault of a run whose sink has stalled.
 fn sink_fault(done: Result<(), Stalled>) -> Result<(), Fault>
     ensures { MatchResult done (λ unit. result ≡ Ok unit) (λ why. result ≡ Err fault.Write) }
 {
@@ -193,7 +194,8 @@ fn take_word<H: Threads + Wait + Copy + Send + Sync + 'static, S: Sink>(
     }
 }
 
-/// Takes a record: the answer to an event is owed then, any other record is answered, once nothing is owed.
+/// Takes a record. If it asks for an event, the reply is owed from then on. Any other record gets its reply once no
+/// reply is owed.
 fn take_record<H: Threads + Wait + Copy + Send + Sync + 'static, S: Sink>(
     rt: &H,
     row: &ByteRecord,
@@ -210,7 +212,7 @@ fn take_record<H: Threads + Wait + Copy + Send + Sync + 'static, S: Sink>(
     }
 }
 
-/// Writes what is owed, and flushes the sink.
+/// Writes the replies that are owed, and flushes the sink.
 fn flush_owed<H: Threads + Wait, S: Sink>(
     rt: &H,
     engine: &mut Engine<OpenGate>,
@@ -225,7 +227,7 @@ fn flush_owed<H: Threads + Wait, S: Sink>(
     flush_line(line, sink)
 }
 
-/// Writes what is owed, and hands it on.
+/// Writes the replies that are owed, and hands them on.
 fn hand_on_owed<H: Threads + Wait, S: Sink>(
     rt: &H,
     engine: &mut Engine<OpenGate>,
@@ -241,8 +243,9 @@ fn hand_on_owed<H: Threads + Wait, S: Sink>(
     hand_on(line, sink)
 }
 
-/// Takes the record that was read last. What is owed is written where 4,096 events are pending, and before a read that
-/// may wait, where no whole record is left of what was read; then the sink is flushed too.
+/// Takes the record that was read last. The replies that are owed are written when 4,096 events are pending. They are
+/// also written, and the sink is flushed, before a read that may wait, which is one that finds no whole record in what
+/// was read.
 fn take_in_time<T: Source, H: Threads + Wait + Copy + Send + Sync + 'static, S: Sink>(
     rt: &H,
     source: &T,
@@ -265,9 +268,10 @@ fn take_in_time<T: Source, H: Threads + Wait + Copy + Send + Sync + 'static, S: 
     sink_fault(write_owed(rt, engine, line, sink))
 }
 
-/// Takes the records of a source in turn: `Read` where the source fails or gives more than 1,048,576 records, `Memory`
-/// where it wants memory, or an event does, `Thread` where the start of a thread was refused, `Write` where the sink
-/// fails. Unless the sink failed, answers may be owed then. The row is the memory to read records into.
+/// Takes the records of a source in turn. Its faults are `Read` if the source fails or has more than
+/// 1,048,576 records, `Memory` if the source or an event needs memory that is refused, `Thread` if the system refuses
+/// to start a thread, and `Write` if the sink fails. Unless the sink failed, replies may be owed afterwards. Records
+/// are read into the row.
 fn take_all<T: Source, H: Threads + Wait + Copy + Send + Sync + 'static, S: Sink>(
     rt: &H,
     source: &mut T,
@@ -301,10 +305,11 @@ fn take_all<T: Source, H: Threads + Wait + Copy + Send + Sync + 'static, S: Sink
     Err(Fault::Read)
 }
 
-/// Answers all records of a source by an engine at rest: `Read` where the source fails or gives more than 1,048,576
-/// records, `Memory` where it wants memory, or an event does, `Thread` where the start of a thread was refused, `Write`
-/// where the sink fails. Unless the sink failed, all records are answered that were read before, but for the one whose
-/// event was refused. The row is the memory to read records into.
+/// Replies to all records of a source with an engine that has no pending events. Its faults are `Read` if
+/// the source fails or has more than 1,048,576 records, `Memory` if the source or an event needs memory that is
+/// refused, `Thread` if the system refuses to start a thread, and `Write` if the sink fails. Unless the sink failed,
+/// all records that were read before have their replies, except for the one whose event was refused. Records are read
+/// into the row.
 pub fn answer_all_by<T: Source, H: Threads + Wait + Copy + Send + Sync + 'static, S: Sink>(
     rt: &H,
     source: &mut T,

@@ -1,5 +1,6 @@
-//! The answers to the records that post, give and take, and to those by which parts come and go. None is inlined: the
-//! places of its event and its reply would be filled with zeros in each answer to another record.
+//! The replies to the records that post, that give and take, and that divide and dissolve parts. None of these
+//! functions is inlined, because the space for their events and replies would otherwise be filled with zeros for each
+//! other record.
 ghost use Rattle.std.specs.Prelude.{◌≡◌, Some};
 ghost use Rattle.csv.specs.Records.{fields_of};
 ghost use Rattle.hlr_owners.specs.Owners.{AllHome, store_in};
@@ -15,7 +16,7 @@ use crate::records::Word;
 use csv::ByteRecord;
 use hlr_core::Register;
 
-/// Puts the answer to a record whose word is `post`: `post,part,limit`.
+/// Appends the reply to a record whose word is `post`: `post,part,limit`.
 #[inline(never)]
 pub fn build_post(row: &ByteRecord, register: &mut Register, line: &mut Line)
     requires home { AllHome register.old.owners }
@@ -29,7 +30,8 @@ pub fn build_post(row: &ByteRecord, register: &mut Register, line: &mut Line)
     }
 }
 
-/// Puts the answer to a record that moves regions, or has a part come or go: what the register replies to its event.
+/// Appends the reply to a record that moves regions, or that divides or dissolves a part, which is the register's reply
+/// to its event.
 #[inline(never)]
 pub fn build_moved(word: Word, row: &ByteRecord, register: &mut Register, line: &mut Line)
     requires event { kind_of word ≡ kind.Event }

@@ -45,15 +45,15 @@ pub enum Word {
     Number,
     /// `post`, which posts cells of a part.
     Post,
-    /// `give`, by which a part gives a stretch of its range away.
+    /// `give`, which cuts a loose piece off a part.
     Give,
-    /// `take`, by which a part takes a loose piece.
+    /// `take`, which joins a loose piece to a part.
     Take,
-    /// `divide`, by which a part is divided in two.
+    /// `divide`, which makes two parts of one.
     Divide,
-    /// `dissolve`, by which a part's rows go to the part in front.
+    /// `dissolve`, which joins a part to the part in front.
     Dissolve,
-    /// `views`, the report of the standing counts.
+    /// `views`, the report of the live counts.
     Views,
     /// `scan`, the report of the counts over the rows.
     Scan,
@@ -61,16 +61,16 @@ pub enum Word {
     Index,
     /// `regions`, the report of the regions.
     Regions,
-    /// `propose`, the report of the bounds that would give each part about its share of the rows.
+    /// `propose`, the report of bounds by which each part would have about its share of the rows.
     Propose,
     /// `recut`, which moves the bounds between parts.
     Recut,
 }
 
-/// The reports that a record may ask for by its word alone.
+/// The reports, for which a record asks by its word alone.
 #[derive(Clone, Copy, Debug)]
 pub enum Report {
-    /// The standing counts.
+    /// The live counts.
     Views,
     /// The counts over the rows.
     Scan,
@@ -78,22 +78,22 @@ pub enum Report {
     Index,
     /// The regions.
     Regions,
-    /// The bounds that would give each part about its share of the rows.
+    /// The bounds by which each part would have about its share of the rows.
     Propose,
 }
 
-/// What the records of a word ask for.
+/// What the records that begin with a word ask for.
 #[derive(Clone, Copy, Debug)]
 pub enum Kind {
     /// An event.
     Event,
     /// A report.
     Report(Report),
-    /// A re-cut.
+    /// A recut.
     Recut,
 }
 
-/// Tells what the records of this word ask for.
+/// Returns what the records that begin with this word ask for.
 pub fn kind_of(word: Word) -> Kind
     ensures { result ≡ kind_of word }
 {
@@ -108,7 +108,7 @@ pub fn kind_of(word: Word) -> Kind
     }
 }
 
-/// Finds the word that a text is, in lower case exactly, where it is none of the four that most records have.
+/// Finds the word that a text is, exactly in lower case, if it is none of the four that most records have.
 #[inline(always)]
 #[tactic(auto, unfolding(crate::specs::Records::word_named))]
 fn rarer_word(text: &[u8]) -> Option<Word>
@@ -139,7 +139,7 @@ fn rarer_word(text: &[u8]) -> Option<Word>
     })
 }
 
-/// Finds the word that a text is, where it is one of the four that most records have.
+/// Finds the word that a text is, if it is one of the four that most records have.
 #[inline(always)]
 #[tactic(auto, unfolding(crate::specs::Records::word_named))]
 fn frequent_word(text: &[u8]) -> Option<Word>
@@ -152,7 +152,7 @@ fn frequent_word(text: &[u8]) -> Option<Word>
             _ => None,
         };
     }
-    // Both letters in one test, before those of the other words.
+    // One test for both letters comes before those of the other words.
     if (text[0] == b'g') & (text[2] == b'd') {
         return match text[1] {
             b's' => Some(Word::Gsd),
@@ -164,7 +164,7 @@ fn frequent_word(text: &[u8]) -> Option<Word>
     None
 }
 
-/// Finds the word that a text is, in lower case exactly. The four that most records have are looked for first.
+/// Finds the word that a text is, exactly in lower case. It tries the four that most records have first.
 #[inline(always)]
 pub fn word_of(text: &[u8]) -> Option<Word>
     ensures { result ≡ word_named text.now }
@@ -175,7 +175,7 @@ pub fn word_of(text: &[u8]) -> Option<Word>
     }
 }
 
-/// Checks that a record has so many fields: `Syntax` where it hasn't.
+/// Checks that a record has so many fields, and otherwise returns `Syntax`.
 pub fn check_len(row: &ByteRecord, len: usize) -> Result<(), Refusal>
     ensures { result ≡ (if length (fields_of row.now) == len then Ok tt else Err Refusal.Syntax) }
 {
@@ -185,14 +185,14 @@ pub fn check_len(row: &ByteRecord, len: usize) -> Result<(), Refusal>
     Err(Refusal::Syntax)
 }
 
-/// Gives the field at a place, which is empty where there is none.
+/// Returns the field at a place, which is empty if there is none.
 pub fn field(row: &ByteRecord, i: usize) -> &[u8]
     ensures { result.now ≡ field (fields_of row.now) i }
 {
     row.get(i).unwrap_or(&[])
 }
 
-/// Finds the side of a part that a text names, `low` or `high`: any other text is `Syntax`.
+/// Finds the side of a part that a text names, `low` or `high`. It returns `Syntax` for any other text.
 #[tactic(auto, unfolding(crate::specs::Records::side_named))]
 pub fn side_named(text: &[u8]) -> Result<Side, Refusal>
     ensures { result ≡ side_named text.now }
@@ -204,7 +204,7 @@ pub fn side_named(text: &[u8]) -> Result<Side, Refusal>
     }
 }
 
-/// Reads the bounds of `recut,b1,..`: `Field` where one is no number, or there are more than 15.
+/// Reads the bounds of `recut,b1,..`. It returns `Field` if one of them is no number, or if there are more than 15.
 pub fn read_bounds(row: &ByteRecord) -> Result<ArrayVec<u64, MOST_BOUNDS>, Refusal>
     ensures { result ≡ bounds_of (fields_of row.now) }
 {

@@ -1,4 +1,4 @@
-//! The reports: their lines are put behind the answers so far, and then how many they are.
+//! The reports. Their lines follow the replies so far, and end with a line that counts them.
 ghost use Rattle.std.specs.Prelude.{◌≡◌, ◌+◌, ◌-◌, ◌*◌, ◌^◌, ◌<◌, ◌≤◌, ◌&&◌, ◌++◌, not, min, true, length, pos, slice_index, slice_index_or};
 ghost use Rattle.std.specs.List.{flat_map};
 ghost use Rattle.tatp_actions.specs.Cell.{cell};
@@ -24,18 +24,18 @@ use tatp_actions::{CELLS, Cells};
 /// The counts that a report of the cells shows.
 #[derive(Clone, Copy)]
 pub enum Counts<'a> {
-    /// What is published of each cell, and what is unposted.
+    /// What is published and what is unposted of each cell.
     Standing {
-        /// Published.
+        /// What is published of each cell.
         published: &'a [i64; CELLS as usize],
-        /// Unposted.
+        /// What is unposted of each cell.
         unposted: &'a [i64; CELLS as usize],
     },
     /// The counts over the rows.
     Rows(&'a Cells),
 }
 
-/// Gives the count of a cell.
+/// Returns the count of a cell.
 fn count_at(counts: &[i64; CELLS as usize], cell: u8) -> i64
     requires { cell < CELLS }
     ensures { result ≡ slice_index_or counts.now cell (pos 0) }
@@ -43,7 +43,7 @@ fn count_at(counts: &[i64; CELLS as usize], cell: u8) -> i64
     counts[usize::from(cell)]
 }
 
-/// Tells whether something is published or unposted.
+/// Returns whether something is published or unposted.
 #[inline(always)]
 fn stands(published: i64, unposted: i64) -> bool
     ensures { result ≡ not (is_zero published && is_zero unposted) }
@@ -51,8 +51,8 @@ fn stands(published: i64, unposted: i64) -> bool
     !(published == 0 && unposted == 0)
 }
 
-/// Puts the lines of the cells of which something is published or unposted, by their numbers, and answers how many
-/// they are.
+/// Appends a line for each cell of which something is published or unposted, in the order of their numbers, and returns
+/// how many lines these are.
 fn build_standing(
     published: &[i64; CELLS as usize],
     unposted: &[i64; CELLS as usize],
@@ -76,7 +76,8 @@ fn build_standing(
     lines
 }
 
-/// Puts the lines of the cells that count some rows, by their numbers, and answers how many they are.
+/// Appends a line for each cell that counts some rows, in the order of their numbers, and returns how many lines these
+/// are.
 fn build_counted(cells: &Cells, line: &mut Line) -> u64
     requires { HasRoom line.old.items }
     ensures lines { line.new.items ≡ line.old.items ++ flat_map (rows_line (slice_index cells.now))
@@ -95,7 +96,7 @@ fn build_counted(cells: &Cells, line: &mut Line) -> u64
     lines
 }
 
-/// Puts the lines of the cells that a report shows, and answers how many they are.
+/// Appends the lines of the cells that a report shows, and returns how many these are.
 fn build_cells(counts: &Counts<'_>, line: &mut Line) -> u64
     requires { HasRoom line.old.items }
     ensures lines { line.new.items ≡ line.old.items ++ flat_map (shown_line counts.now) (cells_where (is_shown counts.now)) }
@@ -111,7 +112,7 @@ fn build_cells(counts: &Counts<'_>, line: &mut Line) -> u64
     }
 }
 
-/// Gives the word of a report of the cells, with which its last line begins.
+/// Returns the word of a report of the cells, with which its last line begins.
 fn total_word(counts: &Counts<'_>) -> &'static [u8]
     ensures word { result.now ≡ total_word counts.now }
     ensures short { length result.now ≤ 6 }
@@ -122,8 +123,8 @@ fn total_word(counts: &Counts<'_>) -> &'static [u8]
     }
 }
 
-/// Puts a report of the cells: a line for each cell with a count that isn't 0, by the cells' numbers, and then the line
-/// of how many they are.
+/// Appends a report of the cells: a line for each cell with a count that isn't 0, in the order of their numbers, and
+/// then the line that counts them.
 pub fn build_counts(counts: &Counts<'_>, line: &mut Line)
     requires { HasRoom line.old.items }
     ensures { line.new.items ≡ line.old.items ++ cells_text counts.now }
@@ -132,9 +133,9 @@ pub fn build_counts(counts: &Counts<'_>, line: &mut Line)
     build_total(line, total_word(counts), lines);
 }
 
-/// Puts the report of a register's standing counts, as published and not posted yet.
+/// Appends the report of a register's live counts, published and unposted.
 ///
-/// It is not inlined: its arrays would be filled with zeros in each answer to an event.
+/// The function is not inlined, because its arrays would otherwise be filled with zeros for each event.
 #[inline(never)]
 pub fn build_views(register: &Register, line: &mut Line)
     requires home { AllHome register.now.owners }
@@ -148,7 +149,7 @@ pub fn build_views(register: &Register, line: &mut Line)
     build_counts(&counts, line);
 }
 
-/// Puts the report of a register's counts over the rows.
+/// Appends the report of a register's counts over the rows.
 #[inline(never)]
 pub fn build_scan(register: &Register, line: &mut Line)
     requires home { AllHome register.now.owners }
@@ -158,7 +159,7 @@ pub fn build_scan(register: &Register, line: &mut Line)
     build_counts(&Counts::Rows(&register.recount()), line);
 }
 
-/// Puts the lines of a page's pairs of a number and a subscriber.
+/// Appends the lines of a page of the index, each with a number and its subscriber.
 fn build_page(page: &Page, line: &mut Line)
     requires { HasRoom line.old.items }
     ensures { line.new.items ≡ line.old.items ++ flat_map number_line page.now.items }
@@ -170,7 +171,7 @@ fn build_page(page: &Page, line: &mut Line)
     }
 }
 
-/// Makes room, and puts the lines of a page's pairs. Where the sink fails, a front of the answers so far was taken.
+/// Makes room, and appends the lines of a page. If the sink fails, some beginning of the replies so far was taken.
 fn write_page<S: Sink>(page: &Page, line: &mut Line, sink: &mut S) -> Result<(), Stalled>
     ensures { Adds (flat_map number_line page.now.items) (outgoing line.old.items (S.taken sink.old)) (outgoing line.new.items (S.taken sink.new)) (S.has_stalled sink.new) result }
 {
@@ -179,7 +180,7 @@ fn write_page<S: Sink>(page: &Page, line: &mut Line, sink: &mut S) -> Result<(),
     Ok(())
 }
 
-/// Gives the number after that of the last pair.
+/// Returns the number that follows the last one of a page.
 fn after_last(pairs: &[(u64, u32)]) -> u64
     requires { 0 < length pairs.now }
     ensures { result ≡ min (2 ^ 64 - 1) ((slice_index_or pairs.now (length pairs.now - 1) (0, 0)).0 + 1) }
@@ -188,8 +189,8 @@ fn after_last(pairs: &[(u64, u32)]) -> u64
     number.saturating_add(1)
 }
 
-/// Writes the report of the numbers: a line for each pair of the index, by number, and then the line of how many they
-/// are. Where the sink fails, a front of the answers so far and of the report was taken.
+/// Writes the report of the numbers: a line for each pair of the index, in the order of the numbers, and then the line
+/// that counts them. If the sink fails, some beginning of the replies so far and of the report was taken.
 #[inline(never)]
 pub fn write_index<S: Sink>(
     index: &NumberIndex,
@@ -211,8 +212,8 @@ pub fn write_index<S: Sink>(
     Ok(())
 }
 
-/// Writes the report of the regions: a line for each, in the order of their ranges, and then the line of how many they
-/// are. Where the sink fails, a front of the answers so far and of the report was taken.
+/// Writes the report of the regions: a line for each, in the order of their ranges, and then the line that counts them.
+/// If the sink fails, some beginning of the replies so far and of the report was taken.
 #[inline(never)]
 pub fn write_regions<S: Sink>(
     regions: &Regions,
@@ -231,7 +232,8 @@ pub fn write_regions<S: Sink>(
     Ok(())
 }
 
-/// Puts the line of the bounds that would give each part about its share of a register's rows, as they are published.
+/// Appends the line of bounds by which each part would have about its share of a register's rows, going by what is
+/// published.
 #[inline(never)]
 pub fn build_proposal(register: &Register, line: &mut Line)
     requires home { AllHome register.now.owners }

@@ -1,4 +1,4 @@
-//! A run: every record of a reader is answered.
+//! A run, which replies to every record of a reader.
 ghost use Rattle.std.specs.Prelude.{◌≡◌, ◌≢◌, ◌⊎◌, ◌↔◌, true, false, Some, Err, Ok, IfOk, IfSome, OnOk, option_map};
 ghost use Rattle.std.specs.Result.{is_err};
 ghost use Rattle.std.specs.Io.KnownBytes.{Keeps};
@@ -39,15 +39,15 @@ use std::sync::{Arc, Wait};
 use std::thread::Threads;
 use tatp_rows::Refusal;
 
-/// How many records a run answers at most.
+/// How many records a run takes at most.
 pub const RECORDS: u32 = 1_048_576;
 
-// The number that the definition of a run means.
+// The definition of a run uses this number.
 const _: () = prove!(RECORDS == 1_048_576);
 
-/// Answers a re-cut: by how many bounds it moved, or why it was refused.
+/// Replies to a recut: how many bounds it moved, or why it was refused.
 ///
-/// It is not inlined: its list of bounds would be filled with zeros in each answer to an event.
+/// The function is not inlined, because its list of bounds would otherwise be filled with zeros for each event.
 #[inline(never)]
 fn recut(row: &ByteRecord, register: &mut Register, line: &mut Line)
     requires home { AllHome register.old.owners }
@@ -82,7 +82,7 @@ fn write_report<S: Sink>(
     Ok(())
 }
 
-/// Answers a record whose word is that of a report: `Syntax` where it has a further field.
+/// Replies to a record that asks for a report. It returns `Syntax` if the record has a further field.
 pub fn answer_report<S: Sink>(
     report: Report,
     row: &ByteRecord,
@@ -102,7 +102,7 @@ pub fn answer_report<S: Sink>(
     write_report(report, register, line, sink)
 }
 
-/// Answers a record whose first field is this word.
+/// Replies to a record whose first field is this word.
 fn answer_word<S: Sink>(
     word: Word,
     row: &ByteRecord,
@@ -143,7 +143,8 @@ fn answer_word<S: Sink>(
     Ok(())
 }
 
-/// Answers a record, behind the answers in the line. Where the sink fails, a front of them and this one was taken.
+/// Replies to a record, behind the replies in the line. If the sink fails, some beginning of them and of this one was
+/// taken.
 #[tactic(auto, unfolding(crate::specs::Records::command_of))]
 fn answer<S: Sink>(
     row: &ByteRecord,
@@ -165,9 +166,9 @@ fn answer<S: Sink>(
     }
 }
 
-/// Answers the record that was read last. The answers so far are handed on and flushed before a read that may wait,
-/// where no whole record is left of what was read, and handed on where they are many. Where the sink fails, a front of
-/// them was taken.
+/// Replies to the record that was read last. The replies so far are handed on and flushed before a read that may wait,
+/// which is one that finds no whole record in what was read, and handed on if there are many. If the sink fails, some
+/// beginning of them was taken.
 fn answer_in_time<T: Source, S: Sink>(
     source: &T,
     row: &ByteRecord,
@@ -190,8 +191,8 @@ fn answer_in_time<T: Source, S: Sink>(
     flush_line(line, sink)
 }
 
-/// Answers the records of a source in turn, as `answer_all`. Unless the sink failed, the last answers are left in the
-/// line.
+/// Replies to the records of a source in turn, as `answer_all` does. Unless the sink failed, the last replies are left
+/// in the line.
 fn answer_records<T: Source, S: Sink>(
     source: &mut T,
     row: &mut ByteRecord,
@@ -228,9 +229,10 @@ fn answer_records<T: Source, S: Sink>(
     Err(Fault::Read)
 }
 
-/// Answers the records of a source in turn, each before the next read may wait: `Read` where the source fails or gives
-/// more than 1,048,576 records, `Memory` where it wants memory, `Write` where the sink fails. Unless the sink failed,
-/// all records are answered that were read before. The row is the memory to read records into.
+/// Replies to the records of a source in turn, each before the next read may wait. Its faults are `Read` if
+/// the source fails or has more than 1,048,576 records, `Memory` if the source needs memory that is refused, and
+/// `Write` if the sink fails. Unless the sink failed, all records that were read before have their replies. Records are
+/// read into the row.
 pub fn answer_all<T: Source, S: Sink>(
     source: &mut T,
     row: &mut ByteRecord,
@@ -257,8 +259,8 @@ pub fn answer_all<T: Source, S: Sink>(
     }
 }
 
-/// Flushes the sink at the end of a run, unless the sink failed already: `Write` where that fails, and else what the
-/// run answered.
+/// Flushes the sink at the end of a run, unless the sink failed already. It returns `Write` if that fails, and
+/// otherwise the result of the run.
 fn finish<S: Sink>(sink: &mut S, done: Result<(), Fault>) -> Result<(), Fault>
     requires { done ≢ Err fault.Field }
     ensures bytes { Keeps (S.taken sink.old) (S.taken sink.new) }
@@ -276,7 +278,7 @@ fn finish<S: Sink>(sink: &mut S, done: Result<(), Fault>) -> Result<(), Fault>
     }
 }
 
-/// Answers all records of a reader from the store of a register, and flushes the sink.
+/// Replies to all records of a reader with a register, and flushes the sink.
 fn run_store<R: Read + Drop, S: Sink>(
     alloc: Global,
     reader: R,
@@ -315,16 +317,16 @@ fn refuse_start<S: Sink>(sink: &mut S, why: Refusal) -> Result<(), Fault>
     }
 }
 
-/// Answers all records of a reader, without a thread, from a store with no row. The records are those of CSV with no
-/// header row, with any number of fields; a byte order mark before them counts for nothing. The number of parts and the
-/// zones' width are those of `Register::open`.
+/// Replies to all records of a reader, without a thread, with a register that has no row at first. The records are
+/// those of CSV without a header row, with any number of fields, and a byte order mark before them is skipped. The
+/// number of parts and the zone width are those of `Register::open`.
 ///
-/// `Field` where parts isn't in 1..=16 or width isn't in 1..=524,288, and then nothing is written. `Memory` where
-/// memory is wanted to start or to read a record. `Read` where the reader fails, or gives more than 1,048,576 records.
-/// `Write` where the sink fails.
+/// It returns `Field` if parts isn't in 1..=16 or width isn't in 1..=524,288, and then it writes nothing. It returns
+/// `Memory` if the system refuses the memory to start or to read a record, `Read` if the reader fails or has more than
+/// 1,048,576 records, and `Write` if the sink fails.
 ///
-/// Every answer is flushed before a read that may wait: the sink is flushed after each record behind which the reader
-/// has given no whole one so far, and at the end, but after `Field` and `Write`.
+/// Every reply is flushed before a read that may wait: the sink is flushed after each record behind which the reader
+/// has returned no whole one so far. It is also flushed at the end, unless the run ended with `Field` or `Write`.
 pub fn run_alone<R: Read + Drop, S: Sink>(
     alloc: Global,
     reader: R,
@@ -350,10 +352,10 @@ pub fn run_alone<R: Read + Drop, S: Sink>(
     }
 }
 
-/// Answers all records of a reader by an engine at rest, and flushes the sink.
+/// Replies to all records of a reader with an engine that has no pending events, and flushes the sink.
 ///
-/// The reader is borrowed, so that the calls of `csv` are compiled for this run and for one without threads each, and
-/// stand in the loop of either.
+/// The reader is borrowed, so that the calls of `csv` are compiled once for this run and once for a run without
+/// threads, and are inlined into the loop of each.
 fn run_engine<R: Read + Drop, H: Threads + Wait + Copy + Send + Sync + 'static, S: Sink>(
     rt: &H,
     alloc: Global,
@@ -376,7 +378,7 @@ fn run_engine<R: Read + Drop, H: Threads + Wait + Copy + Send + Sync + 'static, 
     finish(sink, done)
 }
 
-/// Answers all records of a reader by an engine over a register, and flushes the sink.
+/// Replies to all records of a reader with an engine over a register, and flushes the sink.
 fn run_threads<R: Read + Drop, H: Threads + Wait + Copy + Send + Sync + 'static, S: Sink>(
     rt: &H,
     alloc: Global,
@@ -406,11 +408,12 @@ fn run_threads<R: Read + Drop, H: Threads + Wait + Copy + Send + Sync + 'static,
     }
 }
 
-/// Answers all records of a reader as `run_alone` does, and where threads are asked for with a worker for each part,
-/// which does the part's events in a thread of its own. The answers are the same. It may wait.
+/// Replies to all records of a reader as `run_alone` does, and with threads if they are asked for, in which case each
+/// part has a worker that does its events in a thread of its own. The replies are the same. It may wait.
 ///
-/// `Field`, `Memory`, `Read` and `Write` are as there, and `Memory` also where an event can't be handed on for want of
-/// it; `Thread` where the start of a thread is refused. The answers to all records before that one are written then.
+/// It returns `Field`, `Memory`, `Read` and `Write` as `run_alone` does. It also returns `Memory` if there is no memory
+/// to hand an event on, and `Thread` if the system refuses to start a thread, and then the replies to all records
+/// before that one have been written.
 pub fn run<R: Read + Drop, H: Threads + Wait + Copy + Send + Sync + 'static, S: Sink>(
     rt: &H,
     alloc: Global,

@@ -1,4 +1,4 @@
-//! Where answers are written.
+//! The sinks to which replies are written.
 ghost use Rattle.std.specs.Prelude.{◌≡◌, ◌≤◌, ◌&&◌, ◌||◌, Bool, true, false, not, List, ℕ, Option, [], length, IfOk, OnOk};
 ghost use Rattle.std.specs.Result.{is_err};
 ghost use Rattle.std.specs.Io.KnownBytes.{Keeps, WriteAppends};
@@ -9,34 +9,34 @@ ghost use Rattle.hlr.specs.Written.{HasRoom};
 use crate::lines::Line;
 use std::io::{self, ErrorKind, Write};
 
-/// Why a sink took no bytes.
+/// The reason why a sink took no bytes.
 #[derive(Clone, Copy, Debug, PartialEq, Eq)]
 pub enum PutFault {
-    /// A signal came first; the same call may succeed when it is tried again.
+    /// A signal came first. The same call may succeed when it is tried again.
     Interrupted,
     /// The sink failed.
     Failed,
 }
 
-/// What takes the bytes of the answers.
+/// A sink, which takes the bytes of the replies.
 pub trait Sink {
-    // The bytes taken so far, where they are known.
+    // The bytes taken so far, if they are known.
     ghost taken: { Self → Option (List ℕ) };
 
-    // A put or a flush so far failed, was interrupted, or took 0 bytes of a piece that had some.
+    // Whether a put or a flush so far failed, was interrupted, or took 0 bytes of a piece that had some.
     ghost has_stalled: { Self → Bool };
 
-    // All that was taken is flushed.
+    // Whether all bytes that were taken are flushed.
     ghost is_flushed: { Self → Bool };
 
-    /// Takes the first bytes of the piece, and answers how many; where it fails it takes none.
+    /// Takes the first bytes of the piece, and returns how many it took. If it fails, it has taken none.
     fn put(&mut self, piece: &[u8]) -> Result<usize, PutFault>
         ensures bound { IfOk result (λ n. n ≤ length piece.now) }
         ensures bytes { WriteAppends (taken self.old) (taken self.new) result piece.now }
         ensures told { has_stalled self.new ≡ (has_stalled self.old || stalls result piece.now) }
         ensures flushed { is_flushed self.new ≡ (is_flushed self.old && not (takes result)) };
 
-    /// Hands on all that was taken.
+    /// Hands on all bytes that were taken.
     fn flush(&mut self) -> Result<(), PutFault>
         ensures bytes { Keeps (taken self.old) (taken self.new) }
         ensures told { has_stalled self.new ≡ (has_stalled self.old || is_err result) }
@@ -52,7 +52,7 @@ pub struct Out<W: Write + Drop> {
 }
 
 impl<W: Write + Drop> Out<W> {
-    /// Makes the sink over this writer, of which it isn't known that it is flushed.
+    /// Makes the sink over this writer. It isn't known to be flushed.
     pub fn new(writer: W) -> Self
         ensures writer { result.writer ≡ writer }
         ensures quiet { result.stalled ≡ false }
@@ -105,7 +105,7 @@ impl<W: Write + Drop> Sink for Out<W> {
     }
 }
 
-/// Tells which fault a writer's error is.
+/// Returns which fault a writer's error is.
 fn put_fault(error: io::Error) -> PutFault {
     if error.kind() == ErrorKind::Interrupted {
         PutFault::Interrupted
@@ -114,15 +114,15 @@ fn put_fault(error: io::Error) -> PutFault {
     }
 }
 
-/// A piece was not taken whole: its put took 0 bytes, failed, or was interrupted too often.
+/// The mark that a piece was not taken whole, because its put took 0 bytes, failed, or was interrupted too often.
 #[derive(Clone, Copy, Debug, PartialEq, Eq)]
 pub struct Stalled;
 
-/// How often in a row a put that a signal interrupts is tried again.
+/// How often in a row a put is tried again that a signal has interrupted.
 pub const RETRIES: u8 = 100;
 
-/// Puts the whole piece into the sink. A put that is interrupted is tried again, up to 100 times in a row; one that
-/// takes 0 bytes, or fails, ends it, and then a front of the piece was taken.
+/// Puts the whole piece into the sink. A put that is interrupted is tried again, up to 100 times in a row. If a put
+/// takes 0 bytes or fails, this ends with `Stalled`, and some beginning of the piece was taken.
 pub fn put_all<S: Sink>(sink: &mut S, piece: &[u8]) -> Result<(), Stalled>
     ensures put { Puts piece.now (S.taken sink.old) (S.taken sink.new) (S.has_stalled sink.new) result }
     ensures quiet { S.has_stalled sink.new ≡ false → S.has_stalled sink.old ≡ false }
@@ -143,7 +143,7 @@ pub fn put_all<S: Sink>(sink: &mut S, piece: &[u8]) -> Result<(), Stalled>
     Ok(())
 }
 
-/// Hands all lines on, so that none is left. Where the sink fails, a front of them was taken.
+/// Hands all lines on, so that none is left. If the sink fails, some beginning of them was taken.
 pub fn hand_on<S: Sink>(line: &mut Line, sink: &mut S) -> Result<(), Stalled>
     ensures text { Adds [] (outgoing line.old.items (S.taken sink.old)) (outgoing line.new.items (S.taken sink.new)) (S.has_stalled sink.new) result }
     ensures empty { OnOk result (line.new.items ≡ []) }
@@ -153,7 +153,7 @@ pub fn hand_on<S: Sink>(line: &mut Line, sink: &mut S) -> Result<(), Stalled>
     Ok(())
 }
 
-/// Hands all lines on where there isn't room for a further one.
+/// Hands all lines on, if there isn't room for a further one.
 #[inline(always)]
 pub fn make_room<S: Sink>(line: &mut Line, sink: &mut S) -> Result<(), Stalled>
     ensures text { Adds [] (outgoing line.old.items (S.taken sink.old)) (outgoing line.new.items (S.taken sink.new)) (S.has_stalled sink.new) result }

@@ -1,4 +1,4 @@
-//! Where the records of a run come from.
+//! The sources of the records of a run.
 ghost use Rattle.std.specs.Prelude.{◌≡◌, ◌⊎◌, IfErr, IfOk, OnOk, option_map};
 ghost use Rattle.csv.specs.Reading.{reader_state, source_of, strip_bom};
 ghost use Rattle.csv.specs.Records.{fields_of};
@@ -15,16 +15,16 @@ use std::alloc::Global;
 use std::io::{self, Read};
 use std::snapshot::Snapshot;
 
-/// What gives records in turn, until it ends or fails.
+/// A source, which has records in turn, until it ends or fails.
 pub trait Source {
-    // How it is seen.
+    // How the source is seen.
     ghost seen: { Seen Self };
 
-    // It may be read.
+    // Whether the source may be read.
     ghost is_open: { Self → Type 0 };
 
-    /// Reads the next record into the row, and tells whether there was one: `Memory` where memory was wanted, else
-    /// `Read` where that failed.
+    /// Reads the next record into the row, and returns whether there was one. It returns `Memory` if memory was
+    /// refused, and `Read` if the read failed for another reason.
     fn read(&mut self, row: &mut ByteRecord) -> Result<bool, Fault>
         requires { is_open self.old }
         ensures reads { IfOk result (λ found. ReadsOne (seen.unread self.old) (seen.unread self.new) found (fields_of row.new)) }
@@ -33,20 +33,21 @@ pub trait Source {
         ensures failed { IfErr result (λ why. seen.fails self.old self.new why) }
         ensures fault { IfErr result (λ why. (why ≡ fault.Memory) ⊎ (why ≡ fault.Read)) };
 
-    /// Tells whether a whole record is there that was not read yet, so that the next read waits for nothing.
+    /// Returns whether a whole record is there that was not read yet, so that the next read needn't wait.
     fn has_record(&self) -> bool;
 }
 
-/// The records of a reader: those of CSV with no header row, with any number of fields.
+/// The records of a reader, which are those of CSV without a header row, with any number of fields.
 #[derive(Drop)]
 pub struct Records<R> {
     csv: Reader<WholeRecords<R>>,
-    // The reader as it stood when the last read began, which takes no room.
+    // The reader as it was when the last read began. This takes no room.
     begun: Snapshot<Reader<WholeRecords<R>>>,
 }
 
 impl<R: Read + Drop> Records<R> {
-    /// The records of a reader, of which none is read. An error where there is no memory for a block.
+    /// Makes a source of the records of a reader, of which none is read yet. It returns an error if there is no memory
+    /// for a block.
     pub fn of(alloc: Global, reader: R) -> io::Result<Self>
         ensures open { IfOk result (λ records. IsOpenReader records.csv) }
         ensures start { IfOk result (λ records. reader_state records.csv ≡ state.StartRecord) }

@@ -5,7 +5,7 @@ ghost use Rattle.hlr.specs.WholeRecords.{inner_remaining};
 use std::alloc::Global;
 use std::io::{self, BufReader, Read};
 
-/// Where a text of records stands after a byte.
+/// The state of a text of records after a byte.
 #[derive(Clone, Copy, Debug, PartialEq, Eq)]
 enum TextState {
     /// Before the first byte.
@@ -22,11 +22,11 @@ enum TextState {
     Plain,
     /// In quotes.
     Quoted,
-    /// After a quote in quotes, which ends them or is the first of two.
+    /// After a quote in quotes, which ends the quotes or is the first of two.
     Closing,
 }
 
-/// Gives the state after a quote.
+/// Returns the state after a quote.
 fn state_after_quote(state: TextState) -> TextState {
     match state {
         TextState::Quoted => TextState::Closing,
@@ -35,7 +35,7 @@ fn state_after_quote(state: TextState) -> TextState {
     }
 }
 
-/// Gives the state after a byte that is no quote, no comma and no line end, outside quotes.
+/// Returns the state after a byte that is no quote, no comma and no line end, outside quotes.
 fn state_after_letter(state: TextState, byte: u8) -> TextState {
     match (state, byte) {
         (_, 0..=0x7f) => TextState::Plain,
@@ -46,7 +46,7 @@ fn state_after_letter(state: TextState, byte: u8) -> TextState {
     }
 }
 
-/// Gives the state after a further byte.
+/// Returns the state after a further byte.
 fn state_after(state: TextState, byte: u8) -> TextState {
     match byte {
         b'"' => state_after_quote(state),
@@ -57,12 +57,12 @@ fn state_after(state: TextState, byte: u8) -> TextState {
     }
 }
 
-/// Tells whether a byte ends a line.
+/// Returns whether a byte ends a line.
 fn ends_line(byte: u8) -> bool {
     byte == b'\n' || byte == b'\r'
 }
 
-/// Tells whether a record ended between a state and the next one.
+/// Returns whether a record ended between a state and the next one.
 fn is_end(state: TextState, next: TextState) -> bool {
     next == TextState::Record
         && match state {
@@ -84,7 +84,7 @@ fn last_line_end(block: &[u8]) -> Option<usize> {
     None
 }
 
-/// How many bytes were read, how far they are whole records, and where the text stands behind them.
+/// How many bytes were read, how many of them are whole records, and the state of the text behind them.
 #[derive(Clone, Copy, Debug)]
 struct Seen {
     read: u64,
@@ -134,8 +134,8 @@ impl Seen {
 /// How many bytes are read at once.
 const BLOCK: usize = 65_536;
 
-/// A reader that reads another one's bytes in blocks, and knows how far those that it read are whole records. It reads
-/// a block where all of the one before is handed on.
+/// A reader that reads the bytes of another one in blocks, and knows how many of those that it has read are whole
+/// records. It reads a block when all of the one before is handed on.
 #[derive(Drop)]
 pub struct WholeRecords<R> {
     reader: BufReader<R>,
@@ -143,14 +143,15 @@ pub struct WholeRecords<R> {
 }
 
 impl<R> WholeRecords<R> {
-    /// Tells whether a whole record was read from this byte on, which follows a record.
+    /// Returns whether a whole record was read that begins with this byte, where a record must begin.
     pub fn has_record_from(&self, at: u64) -> bool {
         at < self.seen.whole
     }
 }
 
 impl<R: Read + Drop> WholeRecords<R> {
-    /// Makes the reader over this one, of which nothing was read; an error where there is no memory for a block.
+    /// Makes the reader over this one, of which nothing was read yet. It returns an error if there is no memory for a
+    /// block.
     pub fn new(alloc: Global, reader: R) -> io::Result<Self>
         ensures { IfOk result (λ whole. inner_remaining R.remaining whole ≡ R.remaining reader) }
     {
@@ -171,7 +172,7 @@ impl<R: Read> Read for WholeRecords<R> {
         let is_handed_on = self.reader.buffer().is_empty();
         let count = self.reader.read(buf)?;
         if is_handed_on {
-            // What was read is what was handed on of it, and the rest.
+            // The bytes that were read are those that are handed on now, and the rest.
             self.seen.add(&buf[..count]);
             self.seen.add(self.reader.buffer());
         }

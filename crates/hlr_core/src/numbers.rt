@@ -42,7 +42,7 @@ impl HasSubscribers for Piece {
     }
 }
 
-/// Puts the numbers of an owner's rows into the index. Its refusals, in order, are `NumberTaken` if a number is there
+/// Puts the numbers of an owner's rows into the index. Its refusals are `NumberTaken` if a number is there
 /// already, and `Memory` if the index can't grow.
 fn add_numbers_of<O: HasSubscribers>(index: &mut NumberIndex, owner: &O) -> Result<(), Refusal>
     ensures ok { OnOk result (AreNoted (O.rows_of owner.now) index.old index.new) }
@@ -70,7 +70,7 @@ fn add_numbers_of_all<O: HasSubscribers>(
     Ok(())
 }
 
-/// Makes the index of the numbers of all rows. Its refusals, in order, are `NumberTaken` if two rows have the same
+/// Makes the index of the numbers of all rows. Its refusals are `NumberTaken` if two rows have the same
 /// number, and `Memory` if the system refuses memory.
 pub(crate) fn index_of(alloc: Global, scattered: &Scattered) -> Result<NumberIndex, Refusal>
     ensures ok { IfOk result (IsIndexed scattered.now) }
