@@ -1,4 +1,4 @@
-//! Many questions in one call, of a register or of a part that is out.
+//! Many queries in one call, on a register or on a lent part.
 ghost use Rattle.std.specs.Prelude.{◌≡◌, ◌<◌, ◌≤◌, ◌-◌, ℕ, IsTrue, false, [], length};
 ghost use Rattle.hlr_c.specs.Inside.{AnswersFrom, AreTold, AreWritten, IsBlock};
 ghost use Rattle.hlr_c.specs.Many.{AreAnswered, AreAsMany, IsManyRead};
@@ -6,33 +6,34 @@ ghost use Rattle.hlr_c.specs.Many.{AreAnswered, AreAsMany, IsManyRead};
 use crate::codes::DONE;
 use hlr_core::{ArrayVec, Refusal};
 
-/// What is asked of a register or of a part, and answered by a row or numbers.
+/// A query of a register or of a part, whose answer is a row or numbers.
 pub(crate) trait Question<Of, Found, Row>: Telling<Found, Row> {
-    // How it is answered, where the row was this before.
+    // How the query is answered, given what the row was before.
     ghost is_read: { Self → Row → Of → ℕ × Row → Of → Type 0 };
 
-    /// Asks it: writes the row where the code is `DONE`.
+    /// Answers the query. It writes the row if the code is `DONE`.
     fn ask(&self, of: &Of, row: &mut Row) -> u8
         ensures { is_read self.now row.old of.now (result, row.new) of.now };
 
-    /// Puts what is found for up to 16 questions, side by side, into an empty list, and tells whether it did.
+    /// Puts what is found for up to 16 queries into an empty list, with overlapping memory accesses, and returns
+    /// whether it did.
     fn copy_block(of: &Of, asked: &[Self], found: &mut ArrayVec<Found, 16>) -> bool
         requires few { length asked.now ≤ 16 }
         requires empty { found.old.items ≡ [] }
         ensures { IsTrue result → AreTold is_read Self.told of.now asked.now found.new.items };
 }
 
-/// A question whose answer is written from what was found for it.
+/// A query whose answer is written from what was found for it.
 pub(crate) trait Telling<Found, Row>: Sized {
-    // What is told of it, where the row was this before.
+    // What is written and returned for it, given what the row was before.
     ghost told: { Self → Row → Found → ℕ × Row };
 
-    /// Writes what was found for it, and answers the code.
+    /// Writes what was found for the query, and returns the code.
     fn write(&self, found: &Found, row: &mut Row) -> u8
         ensures { (result, row.new) ≡ told self.now row.old found.now };
 }
 
-/// Writes what was found for the questions from one place up to another.
+/// Writes what was found for the queries from one place up to another.
 fn write_block<Found, Row, Q: Telling<Found, Row>>(
     asked: &[Q],
     from: usize,
@@ -51,8 +52,8 @@ fn write_block<Found, Row, Q: Telling<Found, Row>>(
     }
 }
 
-/// Asks the questions from one place up to another, at most 16, side by side, and tells whether it did: where not, no
-/// row or code is written. The list is for what is found.
+/// Answers the queries from one place up to another, at most 16, with overlapping memory accesses, and returns whether
+/// it did. If it didn't, no row and no code is written. The list is for what is found.
 fn ask_block<Of, Found: Default + Drop, Row, Q: Question<Of, Found, Row>>(
     of: &Of,
     asked: &[Q],
@@ -75,7 +76,7 @@ fn ask_block<Of, Found: Default + Drop, Row, Q: Question<Of, Found, Row>>(
     true
 }
 
-/// Tells where a block ends that begins at a place: 16 places on, or at the end.
+/// Returns where a block ends that begins at a place, which is 16 places later, or at the end of the queries.
 fn block_end(from: usize, count: usize) -> usize
     requires { from < count }
     ensures block { IsBlock from result count }
@@ -84,7 +85,7 @@ fn block_end(from: usize, count: usize) -> usize
     if count - from < 16 { count } else { from + 16 }
 }
 
-/// Asks the questions from one place up to another, one after another.
+/// Answers the queries from one place up to another, one after another.
 fn ask_each<Of, Found, Row, Q: Question<Of, Found, Row>>(
     of: &Of,
     asked: &[Q],
@@ -102,7 +103,7 @@ fn ask_each<Of, Found, Row, Q: Question<Of, Found, Row>>(
     }
 }
 
-/// Asks all questions, side by side where it can.
+/// Answers all queries, with overlapping memory accesses where it can.
 fn ask_all<Of, Found: Default + Drop, Row, Q: Question<Of, Found, Row>>(
     of: &Of,
     asked: &[Q],
@@ -123,7 +124,8 @@ fn ask_all<Of, Found: Default + Drop, Row, Q: Question<Of, Found, Row>>(
     }
 }
 
-/// Asks all questions. `Field` where there aren't as many rows and codes as questions: nothing is written.
+/// Answers all queries. It returns `Field` if there aren't as many rows and codes as queries, and then nothing is
+/// written.
 pub(crate) fn ask_many<Of, Found: Default + Drop, Row, Q: Question<Of, Found, Row>>(
     of: &Of,
     asked: &[Q],

@@ -14,7 +14,7 @@ use hlr_core::{Access, Event, Facility, Letters, Number, Refusal, Subscriber, by
 use hlr_lent::Lender;
 use std::alloc::Global;
 
-/// The row that C hands in, checked.
+/// Checks the row that C hands in, and returns it.
 fn subscriber_of(row: &HlrSubscriber) -> Result<Subscriber, Refusal>
     ensures { result ≡ subscriber_of row.now }
 {
@@ -88,7 +88,7 @@ fn update_location(register: &mut Lender, sub_nbr: u64, vlr_location: u64) -> u8
     code_of_change(register.update_location(sub_nbr, vlr_location))
 }
 
-/// Adds a forwarding of a number to a number.
+/// Adds a forwarding to a number, for the subscriber who has another number.
 fn insert_checked(
     register: &mut Lender,
     sub_nbr: Number,
@@ -216,10 +216,10 @@ fn set_number(register: &mut Lender, s_id: u64, sub_nbr: u64) -> u8
     code_of_change(register.set_number(s_id, sub_nbr))
 }
 
-/// Does UPDATE_SUBSCRIBER_DATA (TATP, section 3.4): sets bit_1 of the subscriber and data_a of the facility, or
-/// neither. `NOT_OPEN`, `Field` where s_id isn't in 1..=16,777,216, sf_type isn't in 1..=4, bit_1 isn't in 0..=1 or
-/// data_a isn't in 0..=255, `Moving`, `AWAY` where the part is out that has the subscriber, `NoSubscriber`,
-/// `NoFacility`.
+/// Does UPDATE_SUBSCRIBER_DATA (TATP, section 3.4), which sets bit_1 of the subscriber and data_a of the facility, or
+/// neither. Its refusals, in order, are `NOT_OPEN`, `Field` if s_id isn't in 1..=16,777,216, sf_type isn't in 1..=4,
+/// bit_1 isn't in 0..=1 or data_a isn't in 0..=255, `Moving`, `AWAY` if the part that has the subscriber is lent,
+/// `NoSubscriber`, and `NoFacility`.
 #[unsafe(no_mangle)]
 pub extern "C" fn hlr_update_subscriber(
     alloc: Global,
@@ -237,8 +237,9 @@ pub extern "C" fn hlr_update_subscriber(
     })
 }
 
-/// Does UPDATE_LOCATION (TATP, section 3.5): moves the subscriber with a number. `NOT_OPEN`, `Field` where sub_nbr
-/// isn't below 10^15 or vlr_location isn't in 1..=4,294,967,295, `NoNumber`, `Moving`, `AWAY`.
+/// Does UPDATE_LOCATION (TATP, section 3.5), which sets the location of the subscriber who has a number. Its refusals,
+/// in order, are `NOT_OPEN`, `Field` if sub_nbr isn't below 10^15 or vlr_location isn't in 1..=4,294,967,295,
+/// `NoNumber`, `Moving`, and `AWAY`.
 #[unsafe(no_mangle)]
 pub extern "C" fn hlr_update_location(
     alloc: Global,
@@ -254,9 +255,9 @@ pub extern "C" fn hlr_update_location(
     })
 }
 
-/// Does INSERT_CALL_FORWARDING (TATP, section 3.6): adds a forwarding to a number. `NOT_OPEN`, `Field` where a number
-/// isn't below 10^15, sf_type isn't in 1..=4, start_time isn't 0, 8 or 16 or end_time isn't in 1..=24, `NoNumber`,
-/// `Moving`, `AWAY`, `NoFacility`, `Exists`, `Memory`.
+/// Does INSERT_CALL_FORWARDING (TATP, section 3.6), which adds a forwarding to a number. Its refusals, in order, are
+/// `NOT_OPEN`, `Field` if a number isn't below 10^15, sf_type isn't in 1..=4, start_time isn't 0, 8 or 16 or end_time
+/// isn't in 1..=24, `NoNumber`, `Moving`, `AWAY`, `NoFacility`, `Exists`, and `Memory`.
 #[unsafe(no_mangle)]
 pub extern "C" fn hlr_insert_forwarding(
     alloc: Global,
@@ -282,8 +283,9 @@ pub extern "C" fn hlr_insert_forwarding(
     })
 }
 
-/// Does DELETE_CALL_FORWARDING (TATP, section 3.7): takes a forwarding away. `NOT_OPEN`, `Field` where sub_nbr isn't
-/// below 10^15, sf_type isn't in 1..=4 or start_time isn't 0, 8 or 16, `NoNumber`, `Moving`, `AWAY`, `NoForwarding`.
+/// Does DELETE_CALL_FORWARDING (TATP, section 3.7), which removes a forwarding. Its refusals, in order, are `NOT_OPEN`,
+/// `Field` if sub_nbr isn't below 10^15, sf_type isn't in 1..=4 or start_time isn't 0, 8 or 16, `NoNumber`, `Moving`,
+/// `AWAY`, and `NoForwarding`.
 #[unsafe(no_mangle)]
 pub extern "C" fn hlr_delete_forwarding(
     alloc: Global,
@@ -300,8 +302,8 @@ pub extern "C" fn hlr_delete_forwarding(
     })
 }
 
-/// Adds a Subscriber row. `NOT_OPEN`, `Field` where a field is out of its range, `Moving`, `AWAY` where the part is out
-/// that would have it, `Exists`, `NumberTaken`, `Memory`.
+/// Adds a Subscriber row. Its refusals, in order, are `NOT_OPEN`, `Field` if a field is out of its range, `Moving`,
+/// `AWAY` if the part that would have it is lent, `Exists`, `NumberTaken`, and `Memory`.
 #[unsafe(no_mangle)]
 pub extern "C" fn hlr_add_subscriber(alloc: Global, handle: &mut Hlr, row: &HlrSubscriber) -> u8
     ensures { IsCall NOT_OPEN (IsAnswer (subscriber_asked row.now) code_told AWAY)
@@ -312,8 +314,8 @@ pub extern "C" fn hlr_add_subscriber(alloc: Global, handle: &mut Hlr, row: &HlrS
     })
 }
 
-/// Adds an Access_Info row. `NOT_OPEN`, `Field` where a field is out of its range, `Moving`, `AWAY`, `NoSubscriber`,
-/// `Exists`, `Memory`.
+/// Adds an Access_Info row. Its refusals, in order, are `NOT_OPEN`, `Field` if a field is out of its range, `Moving`,
+/// `AWAY`, `NoSubscriber`, `Exists`, and `Memory`.
 #[unsafe(no_mangle)]
 pub extern "C" fn hlr_add_access(alloc: Global, handle: &mut Hlr, row: &HlrAccess) -> u8
     ensures { IsCall NOT_OPEN (IsAnswer (access_asked row.now) code_told AWAY)
@@ -322,8 +324,8 @@ pub extern "C" fn hlr_add_access(alloc: Global, handle: &mut Hlr, row: &HlrAcces
     with_register!(handle, alloc, |register| { add_access(&mut register, row) })
 }
 
-/// Adds a Special_Facility row. `NOT_OPEN`, `Field` where a field is out of its range, `Moving`, `AWAY`,
-/// `NoSubscriber`, `Exists`, `Memory`.
+/// Adds a Special_Facility row. Its refusals, in order, are `NOT_OPEN`, `Field` if a field is out of its range,
+/// `Moving`, `AWAY`, `NoSubscriber`, `Exists`, and `Memory`.
 #[unsafe(no_mangle)]
 pub extern "C" fn hlr_add_facility(alloc: Global, handle: &mut Hlr, row: &HlrFacility) -> u8
     ensures { IsCall NOT_OPEN (IsAnswer (facility_asked row.now) code_told AWAY)
@@ -334,8 +336,9 @@ pub extern "C" fn hlr_add_facility(alloc: Global, handle: &mut Hlr, row: &HlrFac
     })
 }
 
-/// Switches a facility on or off, and with it all its forwardings. `NOT_OPEN`, `Field` where s_id isn't in
-/// 1..=16,777,216, sf_type isn't in 1..=4 or is_active isn't in 0..=1, `Moving`, `AWAY`, `NoFacility`.
+/// Switches a facility on or off, and with it all of its forwardings. Its refusals, in order, are `NOT_OPEN`, `Field`
+/// if s_id isn't in 1..=16,777,216, sf_type isn't in 1..=4 or is_active isn't in 0..=1, `Moving`, `AWAY`, and
+/// `NoFacility`, also if there is no such subscriber.
 #[unsafe(no_mangle)]
 pub extern "C" fn hlr_set_active(
     alloc: Global,
@@ -352,9 +355,9 @@ pub extern "C" fn hlr_set_active(
     })
 }
 
-/// Gives a subscriber another number; nothing changes where it is the one that stands. `NOT_OPEN`, `Field` where s_id
-/// isn't in 1..=16,777,216 or sub_nbr isn't below 10^15, `Moving`, `AWAY`, `NoSubscriber`, `NumberTaken`,
-/// `Memory`.
+/// Gives a subscriber another number, and changes nothing if the subscriber has this number already. Its refusals, in
+/// order, are `NOT_OPEN`, `Field` if s_id isn't in 1..=16,777,216 or sub_nbr isn't below 10^15, `Moving`, `AWAY`,
+/// `NoSubscriber`, `NumberTaken`, and `Memory`.
 #[unsafe(no_mangle)]
 pub extern "C" fn hlr_set_number(alloc: Global, handle: &mut Hlr, s_id: u64, sub_nbr: u64) -> u8
     ensures { IsCall NOT_OPEN (IsAnswer (number_asked s_id sub_nbr) code_told AWAY)

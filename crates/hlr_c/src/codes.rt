@@ -8,19 +8,20 @@ ghost use Rattle.hlr_c.specs.Told.{code_told};
 use hlr_core::{Event, Refusal, Reply};
 use hlr_lent::Lender;
 
-/// It was done.
+/// The code of a call that was done.
 pub const DONE: u8 = 0;
 
-/// The subscriber isn't one of this part's.
+/// The code of a call on a lent part whose range doesn't have the subscriber.
 pub const ELSEWHERE: u8 = 252;
 
-/// A part on which the call works is out.
+/// The code of a call that needs a part which is lent.
 pub const AWAY: u8 = 253;
 
-/// The handle has no register, or no part.
+/// The code of a call whose handle has no register, or no part.
 pub const NOT_OPEN: u8 = 254;
 
-/// The handle that a register is to be opened in, or a part is to be lent to, has one already.
+/// The code of a call that should open a handle, or lend a part to it, when the handle has a register or a part
+/// already.
 pub const STILL_OPEN: u8 = 255;
 
 // Definitions name these constants, so their numbers are proved here.
@@ -34,7 +35,7 @@ const _: () = prove!(NOT_OPEN == 254);
 
 const _: () = prove!(STILL_OPEN == 255);
 
-/// The code of what was done to the rows or refused.
+/// Returns the code of a change of rows, which was done or refused.
 pub(crate) fn code_of_change(done: Result<(), Refusal>) -> u8
     ensures { result ≡ code_told (edited_reply done) }
 {
@@ -44,7 +45,7 @@ pub(crate) fn code_of_change(done: Result<(), Refusal>) -> u8
     }
 }
 
-/// The code of a reply.
+/// Returns the code of a reply.
 pub(crate) fn code_of_reply(reply: &Reply) -> u8
     ensures { result ≡ code_told reply.now }
 {
@@ -54,7 +55,8 @@ pub(crate) fn code_of_reply(reply: &Reply) -> u8
     }
 }
 
-/// The code of an event where a part on which it works is out: that of a refusal that is known even so, or `AWAY`.
+/// Returns the code of an event that needs a lent part: that of a refusal if one is known without the part, and
+/// otherwise `AWAY`.
 #[inline(never)]
 pub(crate) fn code_away(register: &Lender, event: &Event) -> u8
     requires { ¬ (IsHomeTo event.now register.now) }

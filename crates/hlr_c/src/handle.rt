@@ -8,10 +8,10 @@ use hlr_lent::Lender;
 use std::alloc::Global;
 use std::mem;
 
-/// Works on the register of an open handle, which then has it again, and answers what the work does. Of a handle that
-/// isn't open it ends the call with `NOT_OPEN`.
+/// Works on the register of an open handle, which has the register again afterwards, and returns what the work returns.
+/// If the handle isn't open, it ends the call with `NOT_OPEN`.
 ///
-/// It is a macro, since the work of each call has a contract of its own, and what it writes it writes by reference.
+/// It is a macro, because the work of each call has a contract of its own, and writes its results by reference.
 macro_rules! with_register {
     ($handle:ident, $alloc:ident, |$register:ident| $work:expr) => {{
         let Some(mut $register) = $handle.take($alloc) else {
@@ -23,8 +23,8 @@ macro_rules! with_register {
     }};
 }
 
-/// Works on the register of an open handle where all its parts are at home, as `with_register`. Where one is out it
-/// ends the call with `AWAY`.
+/// Works on the register of an open handle, as `with_register` does, if all parts of the register are home. If one is
+/// lent, it ends the call with `AWAY`.
 macro_rules! with_register_at_home {
     ($handle:ident, $alloc:ident, |$register:ident| $work:expr) => {{
         let Some(lender) = $handle.take($alloc) else {
@@ -44,24 +44,24 @@ macro_rules! with_register_at_home {
 pub(crate) use with_register;
 pub(crate) use with_register_at_home;
 
-/// What the mark of an open handle is; any other mark is that of a closed one.
+/// The mark of an open handle. Any other mark is that of a closed one.
 pub const OPEN: u64 = 1;
 
 // Definitions name this constant, so its number is proved here.
 const _: () = prove!(OPEN == 1);
 
-/// A handle, as C has it: it is open and has a register, whose parts may be out, or it is closed. One that C fills with
-/// zeros is closed.
+/// The handle of a register, as C has it. It is open and has a register, whose parts may be lent, or it is closed. A
+/// handle that C fills with zeros is closed.
 #[repr(C)]
 pub struct Hlr {
-    /// Whether it is open: `OPEN`.
+    /// The mark, which is `OPEN` if the handle is open.
     pub mark: u64,
-    /// The register, where it is open.
+    /// The register, if the handle is open.
     pub kept: Kept,
     ghost marked: { mark ≡ OPEN ↔ kept.register ≢ None },
 }
 
-// hlr.h declares it for C, where it has the same size.
+// hlr.h declares the handle for C, where it has the same size.
 const _: () = prove!(size_of::<Hlr>() == 16);
 
 impl Hlr {
@@ -75,14 +75,14 @@ impl Hlr {
         }
     }
 
-    /// Tells whether it is open.
+    /// Returns whether the handle is open.
     pub fn is_open(&self) -> bool
         ensures { IsTrue result ↔ (self.now.kept.register ≢ None) }
     {
         self.mark == OPEN
     }
 
-    /// Takes the register out, if the handle is open; it is closed then.
+    /// Takes the register out of the handle, if it is open, and closes it.
     pub(crate) fn take(&mut self, alloc: Global) -> Option<Box<Lender>>
         ensures taken { MatchOption result (self.old.kept.register ≡ None) (λ register. self.old.kept.register ≡ Some register.value) }
         ensures closed { self.new.kept.register ≡ None }
@@ -94,7 +94,7 @@ impl Hlr {
         Some(kept.unseal(alloc).into_box())
     }
 
-    /// Puts a register into a closed handle, which is open then.
+    /// Puts a register into a closed handle, and opens it.
     pub(crate) fn put(&mut self, register: Box<Lender>)
         requires { self.old.kept.register ≡ None }
         ensures { self.new.kept.register ≡ Some register.value }

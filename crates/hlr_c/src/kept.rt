@@ -1,4 +1,4 @@
-//! The address of a register, with no type, as a handle keeps it.
+//! The address of a register, without its type, as a handle keeps it.
 ghost use Rattle.std.specs.Prelude.{◌≡◌, ◌≢◌, Option, None, Some};
 ghost use Rattle.hlr_owners.specs.Owners.{OwnersState};
 ghost use Rattle.hlr_lent.specs.contracts.lender.Lender.{the_row};
@@ -10,9 +10,10 @@ use std::alloc::Global;
 use std::marker::Model;
 use std::ptr;
 
-/// The address of a register, with no type, so that C may have it; or of none. It owns what lies there.
+/// The address of a register, without its type, so that C can have it, or the address of none. It owns the register
+/// that lies there.
 ///
-/// It isn't let go of by itself (it has no `Drop`), so that no register is lost: `let_go` is for one of none.
+/// It has no `Drop`, so that no register can be lost by accident. `let_go` is only for the address of none.
 #[repr(C)]
 pub struct Kept {
     address: *mut u8,
@@ -24,11 +25,11 @@ impl Model for Kept {
     ghost also_owns = { λ kept. held the_row kept.address kept.register };
 }
 
-/// What lies at the address owns nothing of the thread that made it.
+/// The register that lies at the address owns nothing that belongs to the thread that made it.
 unsafe impl Send for Kept {}
 
 impl Kept {
-    /// No register.
+    /// Makes the address of no register.
     pub(crate) fn none() -> Kept
         ensures { result.register ≡ None }
     {
@@ -37,14 +38,14 @@ impl Kept {
         }
     }
 
-    /// Lets go of the address of none.
+    /// Drops the address of no register.
     pub(crate) fn let_go(self)
         requires { self.register ≡ None }
     {
         let Kept { address: _ } = self;
     }
 
-    /// Takes the type from the address of a register.
+    /// Makes an address without a type from that of a register.
     pub(crate) fn seal(parts: BoxParts<Lender, Global>) -> Kept
         ensures { result.register ≡ Some parts.value }
     {
@@ -54,7 +55,7 @@ impl Kept {
         }
     }
 
-    /// Gives the address of a register its type again.
+    /// Returns the address of the register with its type.
     pub(crate) fn unseal(self, alloc: Global) -> BoxParts<Lender, Global>
         requires { self.register ≢ None }
         ensures { self.register ≡ Some result.value }

@@ -1,4 +1,4 @@
-//! The address of a part that is out, with no type, as its handle keeps it.
+//! The address of a lent part, without its type, as its handle keeps it.
 ghost use Rattle.std.specs.Prelude.{◌≡◌, ◌≢◌, Option, None, Some};
 ghost use Rattle.holding.specs.Held.{HoldingState};
 ghost use Rattle.hlr_lent.specs.contracts.lent_part.LentPart.{the_row};
@@ -10,9 +10,10 @@ use std::alloc::Global;
 use std::marker::Model;
 use std::ptr;
 
-/// The address of a part, with no type, so that C may have it; or of none. It owns what lies there.
+/// The address of a lent part, without its type, so that C can have it, or the address of none. It owns the part that
+/// lies there.
 ///
-/// It isn't let go of by itself (it has no `Drop`), so that no part is lost: `let_go` is for one of none.
+/// It has no `Drop`, so that no part can be lost by accident. `let_go` is only for the address of none.
 #[repr(C)]
 pub struct KeptPart {
     address: *mut u8,
@@ -24,11 +25,11 @@ impl Model for KeptPart {
     ghost also_owns = { λ kept. held the_row kept.address kept.part };
 }
 
-/// What lies at the address owns nothing of the thread that made it.
+/// The part that lies at the address owns nothing that belongs to the thread that made it.
 unsafe impl Send for KeptPart {}
 
 impl KeptPart {
-    /// No part.
+    /// Makes the address of no part.
     pub(crate) fn none() -> KeptPart
         ensures { result.part ≡ None }
     {
@@ -37,14 +38,14 @@ impl KeptPart {
         }
     }
 
-    /// Lets go of the address of none.
+    /// Drops the address of no part.
     pub(crate) fn let_go(self)
         requires { self.part ≡ None }
     {
         let KeptPart { address: _ } = self;
     }
 
-    /// Takes the type from the address of a part.
+    /// Makes an address without a type from that of a part.
     pub(crate) fn seal(parts: BoxParts<LentPart, Global>) -> KeptPart
         ensures { result.part ≡ Some parts.value }
     {
@@ -54,7 +55,7 @@ impl KeptPart {
         }
     }
 
-    /// Gives the address of a part its type again.
+    /// Returns the address of the part with its type.
     pub(crate) fn unseal(self, alloc: Global) -> BoxParts<LentPart, Global>
         requires { self.part ≢ None }
         ensures { self.part ≡ Some result.value }

@@ -1,4 +1,4 @@
-//! Parts go out into handles of their own, and come home.
+//! The calls that lend a part to a handle of its own, send it home, and take it in.
 ghost use Rattle.std.specs.Prelude.{◌≡◌, IfErr, IfOk};
 ghost use Rattle.hlr_owners.specs.Owners.{IsLent};
 ghost use Rattle.hlr_c.specs.Call.{IsCall};
@@ -12,7 +12,7 @@ use hlr_core::Refusal;
 use hlr_lent::{Lender, LentPart, Sent};
 use std::alloc::Global;
 
-/// Lends a part, or gives the code why it isn't lent.
+/// Lends a part, or returns the code of the reason why it isn't lent.
 fn lend(alloc: Global, register: &mut Lender, part: u64) -> Result<Box<LentPart>, u8>
     ensures lent { IfOk result (λ lent. IsLent part register.old lent.value register.new) }
     ensures kept { IfErr result (λ code. (register.new ≡ register.old) × IsKept part register.old code) }
@@ -41,8 +41,8 @@ fn back(register: &mut Lender, part: u64) -> u8
     AWAY
 }
 
-/// Lends a part to a closed handle, for whatever thread. `NOT_OPEN`, `STILL_OPEN` where that handle has a part,
-/// `NoPart`, `AWAY` where the part is out, `Memory`: each changes nothing.
+/// Lends a part to a closed handle, for any thread. Its refusals, in order, are `NOT_OPEN`, `STILL_OPEN` if that handle
+/// has a part, `NoPart`, `AWAY` if the part is lent, and `Memory`. Each of them changes nothing.
 #[unsafe(no_mangle)]
 pub extern "C" fn hlr_lend(alloc: Global, handle: &mut Hlr, part: u64, lent: &mut HlrPart) -> u8
     ensures { IsLending part (handle.old.kept.register, lent.old.kept.part) result (handle.new.kept.register, lent.new.kept.part) }
@@ -65,8 +65,8 @@ pub extern "C" fn hlr_lend(alloc: Global, handle: &mut Hlr, part: u64, lent: &mu
     }
 }
 
-/// Takes a part in that was sent home. It is done also where the part is at home. `NOT_OPEN`, `NoPart`, `AWAY` where it
-/// wasn't sent home yet.
+/// Takes a part in that was sent home, and does nothing if the part is home already. Its refusals, in order, are
+/// `NOT_OPEN`, `NoPart`, and `AWAY` if the part wasn't sent home yet.
 #[unsafe(no_mangle)]
 pub extern "C" fn hlr_back(alloc: Global, handle: &mut Hlr, part: u64) -> u8
     ensures { IsCall NOT_OPEN (IsComing part) handle.old.kept.register result handle.new.kept.register }
@@ -74,7 +74,7 @@ pub extern "C" fn hlr_back(alloc: Global, handle: &mut Hlr, part: u64) -> u8
     with_register!(handle, alloc, |register| { back(&mut register, part) })
 }
 
-/// Sends the part of a handle home as it is, if it has one, and closes the handle.
+/// Sends the part of a handle home as it is, if the handle has one, and closes the handle.
 fn home(alloc: Global, part: &mut HlrPart) -> Option<Sent>
     ensures closed { part.new.kept.part ≡ None }
     ensures sent { IsSent part.old.kept.part result }
@@ -83,7 +83,7 @@ fn home(alloc: Global, part: &mut HlrPart) -> Option<Sent>
     Some(Box::into_inner(lent).send_home())
 }
 
-/// Sends a part home, from whatever thread has it, and closes its handle. `NOT_OPEN`.
+/// Sends a part home, from any thread, and closes its handle. It returns `NOT_OPEN` if the handle isn't open.
 #[unsafe(no_mangle)]
 pub extern "C" fn hlr_home(alloc: Global, part: &mut HlrPart) -> u8
     ensures { IsClosing part.old.kept.part result part.new.kept.part }

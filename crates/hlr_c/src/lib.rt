@@ -1,13 +1,14 @@
-//! The register as a library for C: a handle with a register, or with a part of one that is out, and a call for each
-//! thing that can be asked of it. A call costs what the register's costs, and 10 to 20 instructions to see whether a
-//! part is out. C keeps the handles, so no prover sees that no two threads use one at once: `hlr.h`, which declares all
-//! calls, says what else C owes.
+//! The register as a library for C: the handle of a register or of a lent part, and a call for everything that one can
+//! ask of it. A call costs what the register's call costs, and 10 to 20 instructions to see whether a part is lent. C
+//! keeps the handles, so the prover can't see that no two threads use one at the same time. `hlr.h`, which declares all
+//! calls, has this and the other rules for callers.
 //!
-//! All calls take a handle, `Hlr` or `HlrPart`, by reference, and answer a code: `DONE`, a refusal's (`Refusal::code`),
-//! or one of their own: `STILL_OPEN` of `hlr_open` and `hlr_lend`, where the handle to be opened has something,
-//! `NOT_OPEN` of all others, where the handle has nothing, `AWAY` where a part is out on which a call works, and
-//! `ELSEWHERE` of a part's calls, where the subscriber isn't its own. Every number that C hands in is checked. What a
-//! call reads it writes by reference, and only where its code is `DONE`.
+//! All calls take a handle, `Hlr` or `HlrPart`, by reference, and return a code. It is `DONE`, the code of a refusal
+//! (`Refusal::code`), or one of four codes of this library. `hlr_open` and `hlr_lend` return `STILL_OPEN` if the handle
+//! that should be opened has something already. All calls but `hlr_open` return `NOT_OPEN` if the handle has nothing.
+//! `AWAY` means that the call needs a lent part, and `ELSEWHERE` that a lent part doesn't have the subscriber in its
+//! range. Every number that C hands in is checked. A call writes what it reads by reference, and only if its code is
+//! `DONE`.
 #![tactic(auto)]
 
 mod asking;

@@ -1,4 +1,4 @@
-//! Rows that no transaction reads: with these calls C can find who has a number, and write all rows out.
+//! The reads that no transaction makes, with which C can find who has a number, and write all rows out.
 ghost use Rattle.std.specs.Prelude.{◌≡◌};
 ghost use Rattle.tatp_actions.specs.Action.{is_typed};
 ghost use Rattle.hlr_owners.specs.Owners.{AllHome};
@@ -16,7 +16,7 @@ use hlr_lent::Lender;
 use std::alloc::Global;
 use tatp_rows::is_start_time;
 
-/// A row, as C has it.
+/// Makes a facility row as C has it.
 fn facility_for_c(row: &Facility) -> HlrFacility
     ensures { result ≡ row.now }
 {
@@ -106,8 +106,8 @@ fn write_next(register: &Register, from: u64, row: &mut HlrSubscriber) -> u8
     }
 }
 
-/// Finds the subscriber who has a number, whoever is out, as a part gives no number. `NOT_OPEN`, `Field` where sub_nbr
-/// isn't below 10^15, `NoNumber`.
+/// Finds the subscriber who has a number. It works no matter which parts are lent, because no part gives numbers to
+/// subscribers. Its refusals, in order, are `NOT_OPEN`, `Field` if sub_nbr isn't below 10^15, and `NoNumber`.
 #[unsafe(no_mangle)]
 pub extern "C" fn hlr_find(alloc: Global, handle: &mut Hlr, sub_nbr: u64, s_id: &mut u64) -> u8
     ensures { IsCall (NOT_OPEN, s_id.old) (IsReadWhileOut (bearer_in sub_nbr) (value_told s_id.old))
@@ -118,8 +118,8 @@ pub extern "C" fn hlr_find(alloc: Global, handle: &mut Hlr, sub_nbr: u64, s_id: 
     })
 }
 
-/// Reads the row of a facility. `NOT_OPEN`, `Field` where s_id isn't in 1..=16,777,216 or sf_type isn't in 1..=4,
-/// `Moving`, `AWAY`, `NoFacility`.
+/// Reads the row of a facility. Its refusals, in order, are `NOT_OPEN`, `Field` if s_id isn't in 1..=16,777,216 or
+/// sf_type isn't in 1..=4, `Moving`, `AWAY`, and `NoFacility`, also if there is no such subscriber.
 #[unsafe(no_mangle)]
 pub extern "C" fn hlr_facility_data(
     alloc: Global,
@@ -136,8 +136,9 @@ pub extern "C" fn hlr_facility_data(
     })
 }
 
-/// Reads the end and the number of a facility's forwarding that starts at start_time. `NOT_OPEN`, `Field` where s_id
-/// isn't in 1..=16,777,216, sf_type isn't in 1..=4 or start_time isn't 0, 8 or 16, `Moving`, `AWAY`, `NoForwarding`.
+/// Reads the end and the number of a facility's forwarding that starts at start_time. Its refusals, in order, are
+/// `NOT_OPEN`, `Field` if s_id isn't in 1..=16,777,216, sf_type isn't in 1..=4 or start_time isn't 0, 8 or 16,
+/// `Moving`, `AWAY`, and `NoForwarding`, also if there is no such subscriber.
 #[unsafe(no_mangle)]
 pub extern "C" fn hlr_forwarding(
     alloc: Global,
@@ -156,8 +157,8 @@ pub extern "C" fn hlr_forwarding(
     })
 }
 
-/// Finds the first subscriber with an s_id from one on, also one in a loose piece. `NOT_OPEN`, `AWAY` where any part is
-/// out, `NoSubscriber`.
+/// Reads the first subscriber whose s_id is `from` or higher, also one in a loose piece. Its refusals, in order, are
+/// `NOT_OPEN`, `AWAY` if any part is lent, and `NoSubscriber`.
 #[unsafe(no_mangle)]
 pub extern "C" fn hlr_next_subscriber(
     alloc: Global,

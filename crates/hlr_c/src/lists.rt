@@ -1,4 +1,4 @@
-//! Lists in the arrays that C hands in.
+//! The lists in arrays that C hands in, or gets.
 ghost use Rattle.std.specs.Prelude.{◌≡◌, ◌≤◌, ◌<◌, ◌-◌, ◌++◌, ℕ, Ok, Err, IfOk, IfErr, length, map, replicate};
 ghost use Rattle.hlr_c.specs.Asked.{bounds_in};
 ghost use Rattle.hlr_c.specs.Reports.{no_region};
@@ -7,7 +7,7 @@ ghost use Rattle.hlr_c.specs.Rows.{region_for_c};
 use crate::rows::{HlrBounds, HlrRegion, HlrRegions};
 use hlr_core::{Place, Refusal, Region};
 
-/// The bounds that are handed in, as many as their count says; `Field` where that is above 15.
+/// Returns the bounds that C hands in, as many as their count says, or `Field` if the count is above 15.
 pub(crate) fn bounds_in(bounds: &HlrBounds) -> Result<&[u64], Refusal>
     ensures ok { IfOk result (λ list. bounds_in bounds.now ≡ Ok list.now) }
     ensures err { IfErr result (λ why. bounds_in bounds.now ≡ Err why) }
@@ -18,7 +18,7 @@ pub(crate) fn bounds_in(bounds: &HlrBounds) -> Result<&[u64], Refusal>
     Ok(&bounds.bounds[..bounds.count as usize])
 }
 
-/// Bounds, as C has them.
+/// Makes bounds as C has them.
 pub(crate) fn bounds_for_c(list: &[u64]) -> HlrBounds
     requires { length list.now ≤ 15 }
     ensures count { result.count ≡ length list.now }
@@ -34,7 +34,7 @@ pub(crate) fn bounds_for_c(list: &[u64]) -> HlrBounds
     }
 }
 
-/// A region, as C has it.
+/// Makes a region as C has it.
 pub(crate) fn region_for_c(region: &Region) -> HlrRegion
     ensures { result ≡ region_for_c region.now }
 {
@@ -50,7 +50,7 @@ pub(crate) fn region_for_c(region: &Region) -> HlrRegion
     }
 }
 
-/// Regions, as C has them.
+/// Makes a list of regions as C has it.
 pub(crate) fn regions_for_c(list: &[Region]) -> HlrRegions
     requires { length list.now ≤ 32 }
     ensures count { result.count ≡ length list.now }

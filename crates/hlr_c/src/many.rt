@@ -1,5 +1,5 @@
-//! The three transactions that read, each of many questions in one call. The rows are looked for side by side, 16
-//! questions at a time, where no part is out and one has them all.
+//! The three transactions that read, each for many queries in one call. The rows are looked up with overlapping memory
+//! accesses, 16 queries at a time, if no part is lent and one part has all of their subscribers.
 ghost use Rattle.std.specs.Prelude.{◌≡◌, ◌≤◌, [], length, map};
 ghost use Rattle.hlr_core.specs.Rows.{access_reply, numbers_reply, subscriber_reply};
 ghost use Rattle.hlr_c.specs.Call.{IsCall};
@@ -138,8 +138,9 @@ impl Question<Lender, ArrayVec<Number, 3>, HlrNumbers> for HlrDestinationAsked {
     }
 }
 
-/// Does GET_SUBSCRIBER_DATA of many subscribers: writes in each place the code and the row that the call for one
-/// answers. `NOT_OPEN`, `Field` where there aren't as many rows and codes as s_ids: nothing is written.
+/// Does GET_SUBSCRIBER_DATA for many subscribers. In each place it writes the code and the row of the call for one. Its
+/// refusals, in order, are `NOT_OPEN` and `Field` if there aren't as many rows and codes as s_ids, and then nothing is
+/// written.
 #[unsafe(no_mangle)]
 pub extern "C" fn hlr_subscriber_data_many(
     alloc: Global,
@@ -156,8 +157,9 @@ pub extern "C" fn hlr_subscriber_data_many(
     })
 }
 
-/// Does GET_ACCESS_DATA of many accesses: writes in each place the code and the row that the call for one answers.
-/// `NOT_OPEN`, `Field` where there aren't as many rows and codes as accesses: nothing is written.
+/// Does GET_ACCESS_DATA for many accesses. In each place it writes the code and the row of the call for one. Its
+/// refusals, in order, are `NOT_OPEN` and `Field` if there aren't as many rows and codes as queries, and then nothing
+/// is written.
 #[unsafe(no_mangle)]
 pub extern "C" fn hlr_access_data_many(
     alloc: Global,
@@ -174,8 +176,9 @@ pub extern "C" fn hlr_access_data_many(
     })
 }
 
-/// Does GET_NEW_DESTINATION of many: writes in each place the code and the numbers that the call for one answers.
-/// `NOT_OPEN`, `Field` where there aren't as many numbers and codes as questions: nothing is written.
+/// Does GET_NEW_DESTINATION for many calls. In each place it writes the code and the numbers of the call for one. Its
+/// refusals, in order, are `NOT_OPEN` and `Field` if there aren't as many numbers and codes as queries, and then
+/// nothing is written.
 #[unsafe(no_mangle)]
 pub extern "C" fn hlr_new_destination_many(
     alloc: Global,

@@ -1,4 +1,4 @@
-//! Opening and closing.
+//! The calls that open and close a register.
 ghost use Rattle.std.specs.Prelude.{◌≡◌, ◌⊎◌, IfOk, IfErr};
 ghost use Rattle.tatp_rows.specs.declared.refusal.Refusal.TheVariants as refusal;
 ghost use Rattle.hlr_owners.specs.Owners.{AllHome, store_in};
@@ -11,8 +11,8 @@ use hlr_core::{Refusal, Register};
 use hlr_lent::Lender;
 use std::alloc::Global;
 
-/// An empty register in a box, all of whose parts are at home. `Field` where parts isn't in 1..=16 or the width isn't
-/// in 1..=524,288; `Memory`.
+/// Makes an empty register in a box, with all of its parts home. Its refusals, in order, are `Field` if parts isn't in
+/// 1..=16 or the width isn't in 1..=524,288, and `Memory`.
 fn open_boxed(alloc: Global, parts: u64, width: u64) -> Result<Box<Lender>, Refusal>
     ensures ok { IfOk result (λ register. HasOpening parts width × (store_in register.value ≡ opening parts width)) }
     ensures home { IfOk result (λ register. AllHome register.value.owners) }
@@ -25,8 +25,9 @@ fn open_boxed(alloc: Global, parts: u64, width: u64) -> Result<Box<Lender>, Refu
     Ok(Box::new(alloc, Lender::of(register))?)
 }
 
-/// Opens an empty register in a closed handle: `parts` parts, 1..=16, share its subscribers, in zones of `width`,
-/// 1..=524,288. `STILL_OPEN` where the handle has a register, then `Field`, `Memory`; each leaves the handle as it was.
+/// Opens an empty register in a closed handle, with 1..=16 parts that share its subscribers, and zones of 1..=524,288
+/// subscribers. Its refusals, in order, are `STILL_OPEN` if the handle has a register, `Field`, and `Memory`. Each of
+/// them leaves the handle as it was.
 #[unsafe(no_mangle)]
 pub extern "C" fn hlr_open(alloc: Global, parts: u64, width: u64, handle: &mut Hlr) -> u8
     ensures { IsOpening parts width handle.old.kept.register result handle.new.kept.register }
@@ -43,8 +44,8 @@ pub extern "C" fn hlr_open(alloc: Global, parts: u64, width: u64, handle: &mut H
     }
 }
 
-/// Closes a handle, and gives back all memory of its register but that of parts that are out, which go on. `NOT_OPEN`
-/// where it has none.
+/// Closes a handle, and gives back all memory of its register, except that of lent parts, which keep working. It
+/// returns `NOT_OPEN` if the handle has no register.
 #[unsafe(no_mangle)]
 pub extern "C" fn hlr_close(alloc: Global, handle: &mut Hlr) -> u8
     ensures { IsClosing handle.old.kept.register result handle.new.kept.register }

@@ -1,4 +1,4 @@
-//! The handle of a part that is out, as C has it.
+//! The handle of a lent part, as C has it.
 ghost use Rattle.std.specs.Prelude.{◌≡◌, ◌≢◌, ◌↔◌, Option, None, Some, IsTrue, MatchOption};
 ghost use Rattle.hlr_c.specs.declared.handle.TheConstants.{OPEN};
 
@@ -9,8 +9,8 @@ use hlr_lent::LentPart;
 use std::alloc::Global;
 use std::mem;
 
-/// Works on the part of an open handle, which then has it again, and answers what the work does. Of a handle that isn't
-/// open it ends the call with `NOT_OPEN`.
+/// Works on the part of an open handle, which has the part again afterwards, and returns what the work returns. If the
+/// handle isn't open, it ends the call with `NOT_OPEN`.
 macro_rules! with_part {
     ($handle:ident, $alloc:ident, |$part:ident| $work:expr) => {{
         let Some(mut $part) = $handle.take($alloc) else {
@@ -24,18 +24,18 @@ macro_rules! with_part {
 
 pub(crate) use with_part;
 
-/// A handle of a part, as C has it: it is open and has a part that is out, or it is closed. One that C fills with zeros
-/// is closed.
+/// The handle of a lent part, as C has it. It is open and has a lent part, or it is closed. A handle that C fills with
+/// zeros is closed.
 #[repr(C)]
 pub struct HlrPart {
-    /// Whether it is open: `OPEN`.
+    /// The mark, which is `OPEN` if the handle is open.
     pub mark: u64,
-    /// The part, where it is open.
+    /// The part, if the handle is open.
     pub kept: KeptPart,
     ghost marked: { mark ≡ OPEN ↔ kept.part ≢ None },
 }
 
-// hlr.h declares it for C, where it has the same size.
+// hlr.h declares the handle for C, where it has the same size.
 const _: () = prove!(size_of::<HlrPart>() == 16);
 
 impl HlrPart {
@@ -49,14 +49,14 @@ impl HlrPart {
         }
     }
 
-    /// Tells whether it is open.
+    /// Returns whether the handle is open.
     pub fn is_open(&self) -> bool
         ensures { IsTrue result ↔ (self.now.kept.part ≢ None) }
     {
         self.mark == OPEN
     }
 
-    /// Takes the part out, if the handle is open; it is closed then.
+    /// Takes the part out of the handle, if it is open, and closes it.
     pub(crate) fn take(&mut self, alloc: Global) -> Option<Box<LentPart>>
         ensures taken { MatchOption result (self.old.kept.part ≡ None) (λ part. self.old.kept.part ≡ Some part.value) }
         ensures closed { self.new.kept.part ≡ None }
@@ -68,7 +68,7 @@ impl HlrPart {
         Some(kept.unseal(alloc).into_box())
     }
 
-    /// Puts a part into a closed handle, which is open then.
+    /// Puts a part into a closed handle, and opens it.
     pub(crate) fn put(&mut self, part: Box<LentPart>)
         requires { self.old.kept.part ≡ None }
         ensures { self.new.kept.part ≡ Some part.value }

@@ -1,4 +1,4 @@
-//! The calls that change rows of a part that is out, and the one that posts what is pending of it.
+//! The calls that change rows of a lent part, and the one that posts its cells.
 ghost use Rattle.std.specs.Prelude.{◌≡◌, true, false, None, Ok, IfOk, OnErr};
 ghost use Rattle.tatp_rows.specs.Rows.{is_between};
 ghost use Rattle.tatp_actions.specs.declared.action.Action.TheVariants as action;
@@ -57,7 +57,7 @@ fn deletion(s_id: u64, sf_type: u64, start_time: u64) -> Result<DeleteForwarding
     })
 }
 
-/// The code of a change of a subscriber who isn't the part's.
+/// Returns the code of a change for a subscriber who isn't in the part's range.
 #[inline(never)]
 fn code_elsewhere<E: Edit>(edit: E) -> u8
     ensures { result ≡ code_elsewhere (E.action edit) }
@@ -69,7 +69,7 @@ fn code_elsewhere<E: Edit>(edit: E) -> u8
     }
 }
 
-/// Does what asks for a change that gives no number.
+/// Does a change that gives no number to a subscriber, unless a field was refused.
 fn edit<E: Edit>(part: &mut LentPart, asked: Result<E, Refusal>) -> u8
     requires { IfOk asked (λ edit. given_number (E.action edit) ≡ None) }
     ensures edit { IsPartEdit (action_asked E.action asked) part.old result part.new }
@@ -162,9 +162,9 @@ fn post(part: &mut LentPart, limit: u64, posted: &mut u64) -> u8
     }
 }
 
-/// Does UPDATE_SUBSCRIBER_DATA (TATP, section 3.4) of a part that is out. `NOT_OPEN`, `Field` where s_id isn't in
-/// 1..=16,777,216, sf_type isn't in 1..=4, bit_1 isn't in 0..=1 or data_a isn't in 0..=255, `ELSEWHERE` where s_id
-/// isn't in the part's range, `NoSubscriber`, `NoFacility`.
+/// Does UPDATE_SUBSCRIBER_DATA (TATP, section 3.4) on a lent part. Its refusals, in order, are `NOT_OPEN`, `Field` if
+/// s_id isn't in 1..=16,777,216, sf_type isn't in 1..=4, bit_1 isn't in 0..=1 or data_a isn't in 0..=255, `ELSEWHERE`
+/// if s_id isn't in the part's range, `NoSubscriber`, and `NoFacility`.
 #[unsafe(no_mangle)]
 pub extern "C" fn hlr_part_update_subscriber(
     alloc: Global,
@@ -182,8 +182,8 @@ pub extern "C" fn hlr_part_update_subscriber(
     })
 }
 
-/// Does UPDATE_LOCATION (TATP, section 3.5) of a part that is out, by s_id. `NOT_OPEN`, `Field` where s_id isn't in
-/// 1..=16,777,216 or vlr_location isn't in 1..=4,294,967,295, `ELSEWHERE`, `NoSubscriber`.
+/// Does UPDATE_LOCATION (TATP, section 3.5) on a lent part, by s_id. Its refusals, in order, are `NOT_OPEN`, `Field` if
+/// s_id isn't in 1..=16,777,216 or vlr_location isn't in 1..=4,294,967,295, `ELSEWHERE`, and `NoSubscriber`.
 #[unsafe(no_mangle)]
 pub extern "C" fn hlr_part_update_location(
     alloc: Global,
@@ -199,9 +199,10 @@ pub extern "C" fn hlr_part_update_location(
     })
 }
 
-/// Does INSERT_CALL_FORWARDING (TATP, section 3.6) of a part that is out, by s_id. `NOT_OPEN`, `Field` where s_id isn't
-/// in 1..=16,777,216, sf_type isn't in 1..=4, start_time isn't 0, 8 or 16, end_time isn't in 1..=24 or numberx isn't
-/// below 10^15, `ELSEWHERE`, `NoFacility`, `Exists`, `Memory`.
+/// Does INSERT_CALL_FORWARDING (TATP, section 3.6) on a lent part, by s_id. Its refusals, in order, are `NOT_OPEN`,
+/// `Field` if s_id isn't in 1..=16,777,216, sf_type isn't in 1..=4, start_time isn't 0, 8 or 16, end_time isn't in
+/// 1..=24 or numberx isn't below 10^15, `ELSEWHERE`, `NoFacility`, also if there is no such subscriber, `Exists`, and
+/// `Memory`.
 #[unsafe(no_mangle)]
 pub extern "C" fn hlr_part_insert_forwarding(
     alloc: Global,
@@ -220,8 +221,9 @@ pub extern "C" fn hlr_part_insert_forwarding(
     })
 }
 
-/// Does DELETE_CALL_FORWARDING (TATP, section 3.7) of a part that is out, by s_id. `NOT_OPEN`, `Field` where s_id isn't
-/// in 1..=16,777,216, sf_type isn't in 1..=4 or start_time isn't 0, 8 or 16, `ELSEWHERE`, `NoForwarding`.
+/// Does DELETE_CALL_FORWARDING (TATP, section 3.7) on a lent part, by s_id. Its refusals, in order, are `NOT_OPEN`,
+/// `Field` if s_id isn't in 1..=16,777,216, sf_type isn't in 1..=4 or start_time isn't 0, 8 or 16, `ELSEWHERE`, and
+/// `NoForwarding`, also if there is no such subscriber.
 #[unsafe(no_mangle)]
 pub extern "C" fn hlr_part_delete_forwarding(
     alloc: Global,
@@ -238,8 +240,9 @@ pub extern "C" fn hlr_part_delete_forwarding(
     })
 }
 
-/// Switches a facility of a part that is out on or off, and with it all its forwardings. `NOT_OPEN`, `Field` where s_id
-/// isn't in 1..=16,777,216, sf_type isn't in 1..=4 or is_active isn't in 0..=1, `ELSEWHERE`, `NoFacility`.
+/// Switches a facility of a lent part on or off, and with it all of its forwardings. Its refusals, in order, are
+/// `NOT_OPEN`, `Field` if s_id isn't in 1..=16,777,216, sf_type isn't in 1..=4 or is_active isn't in 0..=1,
+/// `ELSEWHERE`, and `NoFacility`, also if there is no such subscriber.
 #[unsafe(no_mangle)]
 pub extern "C" fn hlr_part_set_active(
     alloc: Global,
@@ -256,8 +259,8 @@ pub extern "C" fn hlr_part_set_active(
     })
 }
 
-/// Adds an Access_Info row to a part that is out. `NOT_OPEN`, `Field` where a field is out of its range, `ELSEWHERE`,
-/// `NoSubscriber`, `Exists`, `Memory`.
+/// Adds an Access_Info row to a lent part. Its refusals, in order, are `NOT_OPEN`, `Field` if a field is out of its
+/// range, `ELSEWHERE`, `NoSubscriber`, `Exists`, and `Memory`.
 #[unsafe(no_mangle)]
 pub extern "C" fn hlr_part_add_access(alloc: Global, part: &mut HlrPart, row: &HlrAccess) -> u8
     ensures { IsCall NOT_OPEN (IsPartEdit (part_access_asked row.now))
@@ -266,8 +269,8 @@ pub extern "C" fn hlr_part_add_access(alloc: Global, part: &mut HlrPart, row: &H
     with_part!(part, alloc, |lent| { add_access(&mut lent, row) })
 }
 
-/// Adds a Special_Facility row to a part that is out. `NOT_OPEN`, `Field` where a field is out of its range,
-/// `ELSEWHERE`, `NoSubscriber`, `Exists`, `Memory`.
+/// Adds a Special_Facility row to a lent part. Its refusals, in order, are `NOT_OPEN`, `Field` if a field is out of its
+/// range, `ELSEWHERE`, `NoSubscriber`, `Exists`, and `Memory`.
 #[unsafe(no_mangle)]
 pub extern "C" fn hlr_part_add_facility(alloc: Global, part: &mut HlrPart, row: &HlrFacility) -> u8
     ensures { IsCall NOT_OPEN (IsPartEdit (part_facility_asked row.now))
@@ -276,8 +279,8 @@ pub extern "C" fn hlr_part_add_facility(alloc: Global, part: &mut HlrPart, row: 
     with_part!(part, alloc, |lent| { add_facility(&mut lent, row) })
 }
 
-/// Posts the first `limit` cells of a part that is out that aren't posted, in ascending order, and tells how many were.
-/// `NOT_OPEN`, `Worn`, after which the cells that were posted before stand.
+/// Posts the first `limit` unposted cells of a lent part, in ascending order, and writes how many it posted. Its
+/// refusals, in order, are `NOT_OPEN` and `Worn`, after which the cells that were posted before stay posted.
 #[unsafe(no_mangle)]
 pub extern "C" fn hlr_part_post(
     alloc: Global,

@@ -1,5 +1,5 @@
-//! The three transactions that read a part that is out, each of many questions in one call. The rows are looked for
-//! side by side, 16 questions at a time, where all are the part's.
+//! The three transactions that read a lent part, each for many queries in one call. The rows are looked up with
+//! overlapping memory accesses, 16 queries at a time, if all of their subscribers are in the part's range.
 ghost use Rattle.std.specs.Prelude.{◌≡◌, ◌≤◌, IsTrue, [], length, map};
 ghost use Rattle.std.specs.List.{All};
 ghost use Rattle.hlr_c.specs.Call.{IsCall};
@@ -16,7 +16,7 @@ use hlr_core::{Access, ArrayVec, Number, Subscriber};
 use hlr_lent::LentPart;
 use std::alloc::Global;
 
-/// Puts s_ids into an empty list, and tells whether each is one of a part.
+/// Puts s_ids into an empty list, and returns whether all of them are in a part's range.
 fn put_own(part: &LentPart, s_ids: &[u64], own: &mut ArrayVec<u32, 16>) -> bool
     requires few { length s_ids.now ≤ 16 }
     requires empty { own.old.items ≡ [] }
@@ -33,7 +33,8 @@ fn put_own(part: &LentPart, s_ids: &[u64], own: &mut ArrayVec<u32, 16>) -> bool
     true
 }
 
-/// Puts the s_ids and types of accesses into an empty list, and tells whether each is in range and of a part.
+/// Puts the s_ids and types of accesses into an empty list, and returns whether all types are valid and all s_ids are
+/// in the part's range.
 fn put_own_accesses(
     part: &LentPart,
     asked: &[HlrAccessAsked],
@@ -54,7 +55,8 @@ fn put_own_accesses(
     true
 }
 
-/// Puts the fields of calls into an empty list, and tells whether each is in range and of a subscriber of a part.
+/// Puts the fields of calls into an empty list, and returns whether all fields are valid and all s_ids are in the
+/// part's range.
 fn put_own_calls(
     part: &LentPart,
     asked: &[HlrDestinationAsked],
@@ -149,8 +151,9 @@ impl Question<LentPart, ArrayVec<Number, 3>, HlrNumbers> for HlrDestinationAsked
     }
 }
 
-/// Does GET_SUBSCRIBER_DATA of many subscribers: writes in each place the code and the row that the part's call for one
-/// answers. `NOT_OPEN`, `Field` where there aren't as many rows and codes as s_ids: nothing is written.
+/// Does GET_SUBSCRIBER_DATA for many subscribers of a lent part. In each place it writes the code and the row of the
+/// part's call for one. Its refusals, in order, are `NOT_OPEN` and `Field` if there aren't as many rows and codes as
+/// s_ids, and then nothing is written.
 #[unsafe(no_mangle)]
 pub extern "C" fn hlr_part_subscriber_data_many(
     alloc: Global,
@@ -167,7 +170,8 @@ pub extern "C" fn hlr_part_subscriber_data_many(
     })
 }
 
-/// Does GET_ACCESS_DATA of many accesses, in the same way. `NOT_OPEN`, `Field`.
+/// Does GET_ACCESS_DATA for many accesses of a lent part, in the same way. Its refusals, in order, are `NOT_OPEN` and
+/// `Field`.
 #[unsafe(no_mangle)]
 pub extern "C" fn hlr_part_access_data_many(
     alloc: Global,
@@ -184,7 +188,8 @@ pub extern "C" fn hlr_part_access_data_many(
     })
 }
 
-/// Does GET_NEW_DESTINATION of many, in the same way. `NOT_OPEN`, `Field`.
+/// Does GET_NEW_DESTINATION for many calls to subscribers of a lent part, in the same way. Its refusals, in order, are
+/// `NOT_OPEN` and `Field`.
 #[unsafe(no_mangle)]
 pub extern "C" fn hlr_part_new_destination_many(
     alloc: Global,

@@ -1,4 +1,4 @@
-//! The calls that read a part that is out.
+//! The calls that read a lent part.
 ghost use Rattle.std.specs.Prelude.{◌≡◌};
 ghost use Rattle.tatp_actions.specs.declared.action.Action.TheVariants as action;
 ghost use Rattle.hlr_c.specs.Call.{IsCall};
@@ -15,7 +15,7 @@ use hlr_core::Refusal;
 use hlr_lent::LentPart;
 use std::alloc::Global;
 
-/// Whether a subscriber lies in a part.
+/// Returns whether a subscriber is in the range of a part.
 pub(crate) fn has(part: &LentPart, s_id: u64) -> bool
     ensures { result ≡ has s_id part.now }
 {
@@ -68,8 +68,8 @@ pub(crate) fn read_destinations(
     write_numbers(&found, numbers)
 }
 
-/// Tells the range of a part: the first subscriber, and the number behind the last one. It stays while the part is out.
-/// `NOT_OPEN`.
+/// Reads the range of a part: the first subscriber, and the number behind the last one. The range can't change while
+/// the part is lent. It returns `NOT_OPEN` if the handle isn't open.
 #[unsafe(no_mangle)]
 pub extern "C" fn hlr_part_range(
     alloc: Global,
@@ -87,8 +87,8 @@ pub extern "C" fn hlr_part_range(
     })
 }
 
-/// Does GET_SUBSCRIBER_DATA (TATP, section 3.1) of a part that is out. `NOT_OPEN`, `Field` where s_id isn't in
-/// 1..=16,777,216, `ELSEWHERE` where it isn't in the part's range, `NoSubscriber`.
+/// Does GET_SUBSCRIBER_DATA (TATP, section 3.1) on a lent part. Its refusals, in order, are `NOT_OPEN`, `Field` if s_id
+/// isn't in 1..=16,777,216, `ELSEWHERE` if it isn't in the part's range, and `NoSubscriber`.
 #[unsafe(no_mangle)]
 pub extern "C" fn hlr_part_subscriber_data(
     alloc: Global,
@@ -102,8 +102,8 @@ pub extern "C" fn hlr_part_subscriber_data(
     with_part!(part, alloc, |lent| { read_subscriber(&lent, s_id, row) })
 }
 
-/// Does GET_ACCESS_DATA (TATP, section 3.3) of a part that is out. `NOT_OPEN`, `Field` where s_id isn't in
-/// 1..=16,777,216 or ai_type isn't in 1..=4, `ELSEWHERE`, `NoAccess`.
+/// Does GET_ACCESS_DATA (TATP, section 3.3) on a lent part. Its refusals, in order, are `NOT_OPEN`, `Field` if s_id
+/// isn't in 1..=16,777,216 or ai_type isn't in 1..=4, `ELSEWHERE`, and `NoAccess`.
 #[unsafe(no_mangle)]
 pub extern "C" fn hlr_part_access_data(
     alloc: Global,
@@ -120,9 +120,9 @@ pub extern "C" fn hlr_part_access_data(
     })
 }
 
-/// Does GET_NEW_DESTINATION (TATP, section 3.2) of a part that is out. `NOT_OPEN`, `Field` where s_id isn't in
-/// 1..=16,777,216, sf_type isn't in 1..=4, start_time isn't 0, 8 or 16 or end_time isn't in 1..=24, `ELSEWHERE`,
-/// `NoDestination`.
+/// Does GET_NEW_DESTINATION (TATP, section 3.2) on a lent part. Its refusals, in order, are `NOT_OPEN`, `Field` if s_id
+/// isn't in 1..=16,777,216, sf_type isn't in 1..=4, start_time isn't 0, 8 or 16 or end_time isn't in 1..=24,
+/// `ELSEWHERE`, and `NoDestination`.
 #[unsafe(no_mangle)]
 pub extern "C" fn hlr_part_new_destination(
     alloc: Global,

@@ -1,4 +1,4 @@
-//! The calls that post, that move bounds between parts, and by which parts come and go.
+//! The calls that post, that move bounds between parts, and that divide and dissolve parts.
 ghost use Rattle.std.specs.Prelude.{◌≡◌, Ok};
 ghost use Rattle.hlr_core.specs.declared.event.Event.TheVariants as event;
 ghost use Rattle.hlr_c.specs.Asked.{bounds_in, give_asked, side_of};
@@ -14,7 +14,7 @@ use hlr_core::{Event, Place, Refusal, Region, Reply, Side};
 use hlr_lent::Lender;
 use std::alloc::Global;
 
-/// The side of a number: 0 is the low one, 1 the high one, and all else is `Field`.
+/// Returns the side of a number: 0 is the low side, 1 is the high side, and any other number is refused with `Field`.
 fn side_of(side: u64) -> Result<Side, Refusal>
     ensures { result ≡ side_of side }
 {
@@ -144,8 +144,9 @@ fn recut(register: &mut Lender, bounds: &HlrBounds, moved: &mut u64) -> u8
     tell_recut(register.recut_to(bounds), moved)
 }
 
-/// Posts the first `limit` cells of a part that aren't posted, in ascending order, and tells how many were. `NOT_OPEN`,
-/// `NoPart`, `AWAY` where it is out, `Worn`, after which the cells that were posted before stand.
+/// Posts the first `limit` unposted cells of a part, in ascending order, and writes how many it posted. Its refusals,
+/// in order, are `NOT_OPEN`, `NoPart`, `AWAY` if the part is lent, and `Worn`, after which the cells that were posted
+/// before stay posted.
 #[unsafe(no_mangle)]
 pub extern "C" fn hlr_post(
     alloc: Global,
@@ -162,9 +163,9 @@ pub extern "C" fn hlr_post(
     })
 }
 
-/// Gives the stretch of a part on one side of `at` away (`side` 0: below it, 1: from it on), which becomes a loose
-/// piece, and tells it. `NOT_OPEN`, `Field` where side isn't 0 or 1, `NoPart`, `OutOfRange`, `ManyPieces`, `AWAY`,
-/// `Memory`.
+/// Cuts a loose piece off a part, which has the subscribers below `at` (if `side` is 0) or from it on (if `side` is 1),
+/// and writes the piece. Its refusals, in order, are `NOT_OPEN`, `Field` if side isn't 0 or 1, `NoPart`, `OutOfRange`,
+/// `ManyPieces`, `AWAY`, and `Memory`.
 #[unsafe(no_mangle)]
 pub extern "C" fn hlr_give(
     alloc: Global,
@@ -182,8 +183,8 @@ pub extern "C" fn hlr_give(
     })
 }
 
-/// Takes a loose piece into a part that touches it. `NOT_OPEN`, `NoPiece`, `NoPart`, `NotAdjacent`, `AWAY` where the
-/// part is out, `Memory`.
+/// Joins a loose piece to a part that touches it. Its refusals, in order, are `NOT_OPEN`, `NoPiece`, `NoPart`,
+/// `NotAdjacent`, `AWAY` if the part is lent, and `Memory`.
 #[unsafe(no_mangle)]
 pub extern "C" fn hlr_take(alloc: Global, handle: &mut Hlr, piece: u64, part: u64) -> u8
     ensures { IsCall NOT_OPEN (IsAnswer (Ok (event.Take piece part)) code_told AWAY)
@@ -194,9 +195,9 @@ pub extern "C" fn hlr_take(alloc: Global, handle: &mut Hlr, piece: u64, part: u6
     })
 }
 
-/// Divides a part at a subscriber: it keeps what is below, and a new part with the next number has the rest; tells the
-/// new part. Later parts' numbers rise by one. `NOT_OPEN`, `NoPart`, `OutOfRange`, `ManyParts`,
-/// `AWAY` where it or a later one is out, `Memory`.
+/// Divides a part at a subscriber: it keeps what is below, a new part with the next number gets the rest, and the
+/// numbers of later parts rise by one. It writes the new part. Its refusals, in order, are `NOT_OPEN`, `NoPart`,
+/// `OutOfRange`, `ManyParts`, `AWAY` if the part or a later one is lent, and `Memory`.
 #[unsafe(no_mangle)]
 pub extern "C" fn hlr_divide(
     alloc: Global,
@@ -213,9 +214,9 @@ pub extern "C" fn hlr_divide(
     })
 }
 
-/// Dissolves a part: the part in front has its rows, and later parts' numbers fall by one; tells the part in front, as
-/// it is then. `NOT_OPEN`, `NoPart`, `NotAdjacent` where it is the first part or a loose piece lies between, `AWAY`
-/// where the part in front, it or a later one is out, `Memory`.
+/// Dissolves a part: the part in front gets its rows, and the numbers of later parts fall by one. It writes the part in
+/// front, as it is then. Its refusals, in order, are `NOT_OPEN`, `NoPart`, `NotAdjacent` if the part is the first one
+/// or a loose piece lies in front of it, `AWAY` if the part in front, the part or a later one is lent, and `Memory`.
 #[unsafe(no_mangle)]
 pub extern "C" fn hlr_dissolve(
     alloc: Global,
@@ -231,10 +232,11 @@ pub extern "C" fn hlr_dissolve(
     })
 }
 
-/// Moves the bounds between parts to these, the first subscriber of each part but the first, and tells how many were
-/// moved. `NOT_OPEN`, `Field` where the bounds aren't strictly rising ones in 2..=16,777,216, one less than there are
-/// parts, `Moving` where a piece is loose, `AWAY` where a bound would move between parts one of which is out, `Memory`,
-/// after which the moves that were done stand, and the piece of the move that was refused may be loose.
+/// Moves the bounds between the parts to these, and writes how many it moved. A bound is the first subscriber of a part
+/// other than the first part. Its refusals, in order, are `NOT_OPEN`, `Field` if the bounds don't rise strictly in
+/// 2..=16,777,216 or aren't one less than there are parts, `Moving` if a piece is loose, `AWAY` if a part on one side
+/// of a bound that would move is lent, and `Memory`. After the last of these, the moves that were done stay done, and
+/// the piece of the move that was refused may be loose.
 #[unsafe(no_mangle)]
 pub extern "C" fn hlr_recut(
     alloc: Global,

@@ -1,4 +1,4 @@
-//! The three transactions that read.
+//! The calls of the three transactions that read.
 ghost use Rattle.std.specs.Prelude.{◌≡◌, Ok, slice_index_or};
 ghost use Rattle.hlr_core.specs.Home.{IsHomeTo};
 ghost use Rattle.hlr_core.specs.Rows.{access_reply, numbers_reply, subscriber_reply};
@@ -15,7 +15,7 @@ use hlr_core::{Access, ArrayVec, Event, Number, Refusal, Register, Subscriber};
 use hlr_lent::Lender;
 use std::alloc::Global;
 
-/// A row, as C has it.
+/// Makes a subscriber row as C has it.
 pub(crate) fn subscriber_for_c(row: &Subscriber) -> HlrSubscriber
     ensures { result ≡ row.now }
 {
@@ -30,7 +30,7 @@ pub(crate) fn subscriber_for_c(row: &Subscriber) -> HlrSubscriber
     }
 }
 
-/// The number at a place; 0 behind the last one.
+/// Returns the number at a place, or 0 behind the last one.
 fn number_at(numbers: &[Number], place: usize) -> u64
     ensures { result ≡ slice_index_or numbers.now place 0 }
 {
@@ -41,7 +41,7 @@ fn number_at(numbers: &[Number], place: usize) -> u64
     }
 }
 
-/// Numbers, as C has them.
+/// Makes numbers as C has them.
 fn numbers_for_c(numbers: &ArrayVec<Number, 3>) -> HlrNumbers
     ensures { result ≡ numbers_for_c numbers.now.items }
 {
@@ -52,7 +52,7 @@ fn numbers_for_c(numbers: &ArrayVec<Number, 3>) -> HlrNumbers
     }
 }
 
-/// What was read of an access, as C has it.
+/// Writes what was found of an access, as C has it.
 fn write_access(found: &Access, s_id: u64, ai_type: u64, row: &mut HlrAccess)
     ensures { row.new ≡ record {
       s_id = s_id;
@@ -73,7 +73,7 @@ fn write_access(found: &Access, s_id: u64, ai_type: u64, row: &mut HlrAccess)
     };
 }
 
-/// Writes what was found of a subscriber, as C has it: `NoSubscriber` where nothing was.
+/// Writes what was found of a subscriber, as C has it. It returns `NoSubscriber` if nothing was found.
 pub(crate) fn write_subscriber(found: &Option<Subscriber>, row: &mut HlrSubscriber) -> u8
     ensures { (result, row.new) ≡ subscriber_told row.old (subscriber_reply found.now) }
 {
@@ -86,7 +86,7 @@ pub(crate) fn write_subscriber(found: &Option<Subscriber>, row: &mut HlrSubscrib
     }
 }
 
-/// Writes what was found of an access, as C has it: `NoAccess` where nothing was.
+/// Writes what was found of an access, as C has it. It returns `NoAccess` if nothing was found.
 pub(crate) fn write_access_found(
     found: &Option<Access>,
     s_id: u64,
@@ -104,7 +104,7 @@ pub(crate) fn write_access_found(
     }
 }
 
-/// Writes the numbers that were found, as C has them: `NoDestination` where there are none.
+/// Writes the numbers that were found, as C has them. It returns `NoDestination` if there are none.
 pub(crate) fn write_numbers(found: &ArrayVec<Number, 3>, numbers: &mut HlrNumbers) -> u8
     ensures { (result, numbers.new) ≡ numbers_told numbers.old (numbers_reply found.now.items) }
 {
@@ -208,8 +208,9 @@ pub(crate) fn ask_destinations(
     )
 }
 
-/// Does GET_SUBSCRIBER_DATA (TATP, section 3.1): the row of a subscriber. `NOT_OPEN`, `Field` where s_id isn't in
-/// 1..=16,777,216, `Moving`, `AWAY` where the part is out that has the subscriber, `NoSubscriber`.
+/// Does GET_SUBSCRIBER_DATA (TATP, section 3.1), which reads the row of a subscriber. Its refusals, in order, are
+/// `NOT_OPEN`, `Field` if s_id isn't in 1..=16,777,216, `Moving`, `AWAY` if the part that has the subscriber is lent,
+/// and `NoSubscriber`.
 #[unsafe(no_mangle)]
 pub extern "C" fn hlr_subscriber_data(
     alloc: Global,
@@ -225,8 +226,8 @@ pub extern "C" fn hlr_subscriber_data(
     })
 }
 
-/// Does GET_ACCESS_DATA (TATP, section 3.3): the row of an access. `NOT_OPEN`, `Field` where s_id isn't in
-/// 1..=16,777,216 or ai_type isn't in 1..=4, `Moving`, `AWAY`, `NoAccess`.
+/// Does GET_ACCESS_DATA (TATP, section 3.3), which reads the row of an access. Its refusals, in order, are `NOT_OPEN`,
+/// `Field` if s_id isn't in 1..=16,777,216 or ai_type isn't in 1..=4, `Moving`, `AWAY`, and `NoAccess`.
 #[unsafe(no_mangle)]
 pub extern "C" fn hlr_access_data(
     alloc: Global,
@@ -243,9 +244,10 @@ pub extern "C" fn hlr_access_data(
     })
 }
 
-/// Does GET_NEW_DESTINATION (TATP, section 3.2): the numbers that an active facility forwards to, of its forwardings
-/// that start by start_time and end after end_time. `NOT_OPEN`, `Field` where s_id isn't in 1..=16,777,216, sf_type
-/// isn't in 1..=4, start_time isn't 0, 8 or 16 or end_time isn't in 1..=24, `Moving`, `AWAY`, `NoDestination`.
+/// Does GET_NEW_DESTINATION (TATP, section 3.2), which reads the numbers to which an active facility forwards a call:
+/// those of its forwardings that start by start_time and end after end_time. Its refusals, in order, are `NOT_OPEN`,
+/// `Field` if s_id isn't in 1..=16,777,216, sf_type isn't in 1..=4, start_time isn't 0, 8 or 16 or end_time isn't in
+/// 1..=24, `Moving`, `AWAY`, and `NoDestination`.
 #[unsafe(no_mangle)]
 pub extern "C" fn hlr_new_destination(
     alloc: Global,

@@ -1,4 +1,4 @@
-//! The reports.
+//! The calls that read counts, regions and proposed bounds.
 ghost use Rattle.std.specs.Prelude.{◌≡◌, ◌<◌, ◌≤◌, ℕ, length, pos, slice_index, slice_index_or};
 ghost use Rattle.view_board.specs.Nets.{net_of};
 ghost use Rattle.view_board.specs.Views.{first_view};
@@ -16,7 +16,7 @@ use hlr_core::{CELLS, Cells, Register, Sight, WORDS};
 use hlr_lent::Lender;
 use std::alloc::Global;
 
-/// The counts of all cells.
+/// Returns the counts of all cells.
 pub(crate) fn counts_of(cells: &Cells) -> [u64; CELLS as usize]
     ensures { (c : ℕ) → c < CELLS → slice_index_or result c 0 ≡ slice_index cells.now c }
 {
@@ -27,7 +27,7 @@ pub(crate) fn counts_of(cells: &Cells) -> [u64; CELLS as usize]
     counts
 }
 
-/// What a sight has published of a cell; where that has no room in 64 bits, what is nearest.
+/// Returns what a sight has published of a cell, or the nearest number of 64 bits if that doesn't fit.
 fn published_of(sight: &Sight, cell: u8) -> i64
     requires { cell < CELLS }
     ensures { result ≡ nearest (net_of (first_view sight.now.words) cell) }
@@ -38,7 +38,7 @@ fn published_of(sight: &Sight, cell: u8) -> i64
         .max(i128::from(i64::MIN)) as i64
 }
 
-/// What a sight has published of each cell.
+/// Returns what a sight has published of each cell.
 fn cells_of(sight: &Sight) -> [i64; CELLS as usize]
     ensures { (c : ℕ) → c < CELLS → slice_index_or result c (pos 0) ≡ nearest (net_of (first_view sight.now.words) c) }
 {
@@ -90,8 +90,8 @@ fn write_proposal(register: &Register, bounds: &mut HlrBounds)
     *bounds = bounds_for_c(register.propose().list());
 }
 
-/// Tells each cell as published, and what is not posted yet of it, which add up to the count over the rows now.
-/// `NOT_OPEN`, `AWAY` where any part is out.
+/// Reads what is published and what is unposted of each cell; the two add up to the count over the rows now. Its
+/// refusals, in order, are `NOT_OPEN` and `AWAY` if any part is lent.
 #[unsafe(no_mangle)]
 pub extern "C" fn hlr_views(
     alloc: Global,
@@ -108,8 +108,9 @@ pub extern "C" fn hlr_views(
     })
 }
 
-/// Tells each cell as published now, whoever is out: the words of the board are loaded one after another, so it is no
-/// moment of all of them, and a word never falls behind an earlier look. `NOT_OPEN`.
+/// Reads what is published of each cell now, no matter which parts are lent. The words of the board are loaded one
+/// after another, so the cells don't belong to one moment, but no word is ever less than in an earlier look. It returns
+/// `NOT_OPEN` if the handle isn't open.
 #[unsafe(no_mangle)]
 pub extern "C" fn hlr_look(
     alloc: Global,
@@ -121,7 +122,8 @@ pub extern "C" fn hlr_look(
     with_register!(handle, alloc, |register| { look(&mut register, published) })
 }
 
-/// Counts each cell anew by a walk over all rows. `NOT_OPEN`, `AWAY` where any part is out.
+/// Counts each cell anew by a walk over all rows. Its refusals, in order, are `NOT_OPEN` and `AWAY` if any part is
+/// lent.
 #[unsafe(no_mangle)]
 pub extern "C" fn hlr_scan(
     alloc: Global,
@@ -137,7 +139,8 @@ pub extern "C" fn hlr_scan(
     })
 }
 
-/// Tells all regions in order, each of a part or of a loose piece. `NOT_OPEN`.
+/// Reads all regions in order, each of them of a part or of a loose piece. It returns `NOT_OPEN` if the handle isn't
+/// open.
 #[unsafe(no_mangle)]
 pub extern "C" fn hlr_regions(alloc: Global, handle: &mut Hlr, regions: &mut HlrRegions) -> u8
     ensures { IsCall (NOT_OPEN, regions.old) (λ before. IsReport (AreListed before) before)
@@ -149,8 +152,8 @@ pub extern "C" fn hlr_regions(alloc: Global, handle: &mut Hlr, regions: &mut Hlr
     })
 }
 
-/// Tells the bounds between zones that would give each part about its share of the rows, by what is published of the
-/// zones. `NOT_OPEN`, `AWAY` where any part is out.
+/// Proposes bounds between zones by which each part would have about its share of the rows, going by what is published
+/// of the zones. Its refusals, in order, are `NOT_OPEN` and `AWAY` if any part is lent.
 #[unsafe(no_mangle)]
 pub extern "C" fn hlr_propose(alloc: Global, handle: &mut Hlr, bounds: &mut HlrBounds) -> u8
     ensures { IsCall (NOT_OPEN, bounds.old) (IsAtHome (AWAY, bounds.old) (λ before. IsReport (AreProposed before) before))

@@ -1,4 +1,4 @@
-//! What C hands in and gets by reference.
+//! The rows and lists that C hands in, and gets by reference.
 use std::marker::Model;
 
 /// A Subscriber row (TATP, section 2.1).
@@ -131,7 +131,7 @@ impl Model for HlrFacility {
     } };
 }
 
-/// Which access is asked for.
+/// A query for an access.
 #[repr(C)]
 #[derive(Clone, Copy, Debug, PartialEq, Eq)]
 pub struct HlrAccessAsked {
@@ -141,7 +141,7 @@ pub struct HlrAccessAsked {
     pub ai_type: u64,
 }
 
-/// Which call's numbers are asked for.
+/// A query for the numbers to which a call is forwarded.
 #[repr(C)]
 #[derive(Clone, Copy, Debug, PartialEq, Eq)]
 pub struct HlrDestinationAsked {
@@ -155,7 +155,7 @@ pub struct HlrDestinationAsked {
     pub end_time: u64,
 }
 
-/// Numbers that calls are forwarded to.
+/// The numbers to which a call is forwarded.
 #[repr(C)]
 #[derive(Clone, Copy, Debug, PartialEq, Eq)]
 pub struct HlrNumbers {
@@ -165,7 +165,7 @@ pub struct HlrNumbers {
     pub numbers: [u64; 3],
 }
 
-/// A range of subscribers, and who has it.
+/// A range of subscribers, and the part or the loose piece that has it.
 #[repr(C)]
 #[derive(Clone, Copy, Debug, PartialEq, Eq)]
 pub struct HlrRegion {
@@ -173,19 +173,19 @@ pub struct HlrRegion {
     pub lo: u64,
     /// The number behind the last subscriber, at most 16,777,217.
     pub hi: u64,
-    /// 0 of a part, 1 of a loose piece.
+    /// 0 for a part, 1 for a loose piece.
     pub is_piece: u64,
     /// The number of the part, 0..=15, or of the piece, 1..=16.
     pub number: u64,
 }
 
-/// Regions, in order.
+/// Regions, in the order of their ranges.
 #[repr(C)]
 #[derive(Clone, Copy, Debug, PartialEq, Eq)]
 pub struct HlrRegions {
     /// How many, 1..=32.
     pub count: u64,
-    /// The regions, in the first places.
+    /// The regions, in the first places. In the places behind them all fields are 0.
     pub regions: [HlrRegion; 32],
 }
 
