@@ -1,4 +1,4 @@
-//! Counts over all owners: what is published, what is pending, and what the rows have.
+//! The counts over all owners: what is published, what is unposted, and what the rows give.
 ghost use Rattle.std.specs.Prelude.{◌≡◌, ℕ, ◌<◌, ◌+ℤ◌, true, pos, slice_index, slice_index_or};
 ghost use Rattle.tatp_actions.specs.Cell.{cell};
 ghost use Rattle.tatp_actions.specs.declared.cells.TheConstants.{CELLS};
@@ -17,7 +17,7 @@ use crate::range_owner::RangeOwner;
 use tatp_actions::{CELLS, Cells};
 
 impl RegionOwner {
-    /// The count of each cell, taken by a walk over the rows.
+    /// Returns the count of each cell, made by a walk over the rows.
     fn recount(&self) -> Cells
         requires { is_home self.now ≡ true }
         ensures { (c : ℕ) → c < CELLS → slice_index result c ≡ count_of (state_of self.now).part c }
@@ -29,7 +29,7 @@ impl RegionOwner {
     }
 }
 
-/// Adds what an owner has published of each cell to a sum: of a loose piece nobody has published anything.
+/// Adds what an owner has published of each cell to a sum. A loose piece has published nothing.
 fn add_published(sums: &mut [i64; CELLS as usize], owner: &RegionOwner)
     requires home { is_home owner.now ≡ true }
     requires alone { AllByRecursion HasOneSlot (desk_at owner.now) }
@@ -42,7 +42,7 @@ fn add_published(sums: &mut [i64; CELLS as usize], owner: &RegionOwner)
     }
 }
 
-/// Adds what is pending of each cell with an owner to a sum. Neither is past 2^60, either way.
+/// Adds what an owner has pending of each cell to a sum. Neither the sum nor what is pending passes 2^60, up or down.
 fn add_deltas<O: RangeOwner>(sums: &mut [i64; CELLS as usize], state: &O)
     requires sums { AreSummable (delta_at sums.old) }
     requires pending { AreSummable (delta_at (O.deltas_of state.now)) }
@@ -53,7 +53,7 @@ fn add_deltas<O: RangeOwner>(sums: &mut [i64; CELLS as usize], state: &O)
     }
 }
 
-/// The same with the owner of a region.
+/// Adds what the owner of a region has pending of each cell to a sum, in the same way.
 fn add_pending(sums: &mut [i64; CELLS as usize], owner: &RegionOwner)
     requires home { is_home owner.now ≡ true }
     requires sums { AreSummable (delta_at sums.old) }
@@ -67,8 +67,8 @@ fn add_pending(sums: &mut [i64; CELLS as usize], owner: &RegionOwner)
 }
 
 impl Owners {
-    /// Gives the cells as published: the sum of what the parts' desks have published. The desk of the other slots has a
-    /// net of 0.
+    /// Returns what is published of each cell, which is the sum of what the desks of the parts have published. The desk
+    /// of the other slots has a net of 0.
     pub fn published(&self) -> [i64; CELLS as usize]
         requires { AllHome self.now.owners }
         ensures { (c : ℕ) → c < CELLS → slice_index_or result c (pos 0) ≡ published (store_in self.now) c }
@@ -80,7 +80,7 @@ impl Owners {
         sums
     }
 
-    /// Gives what is not posted yet of each cell: the sum of what is pending in all parts and loose pieces.
+    /// Returns what is unposted of each cell, which is the sum of what all parts and loose pieces have pending.
     pub fn unposted(&self) -> [i64; CELLS as usize]
         requires { AllHome self.now.owners }
         ensures pending { (c : ℕ) → c < CELLS → slice_index_or result c (pos 0) ≡ unposted self.now.owners c }
@@ -93,7 +93,7 @@ impl Owners {
         sums
     }
 
-    /// Counts each cell by a walk over all rows, those of loose pieces too.
+    /// Counts each cell by a walk over all rows, including those of loose pieces.
     pub fn recount(&self) -> Cells
         requires { AllHome self.now.owners }
         ensures { (c : ℕ) → c < CELLS → slice_index result c ≡ cell self.now.width c (book_in self.now.owners) }

@@ -1,4 +1,4 @@
-//! Whether all parts are at home.
+//! The test whether all parts are home.
 ghost use Rattle.std.specs.Prelude.{◌≡◌, ◌↔◌, IsTrue};
 ghost use Rattle.std.specs.List.{list_all};
 ghost use Rattle.hlr_owners.specs.Owners.{AllHome, is_home};
@@ -6,7 +6,7 @@ ghost use Rattle.hlr_owners.specs.Owners.{AllHome, is_home};
 use crate::owners::Owners;
 use crate::part_owner::RegionOwner;
 
-/// Whether an owner is at home.
+/// Returns whether an owner is home.
 fn is_home(owner: &RegionOwner) -> bool
     ensures { result ≡ is_home owner.now }
 {
@@ -16,7 +16,7 @@ fn is_home(owner: &RegionOwner) -> bool
     }
 }
 
-/// Whether nobody is out.
+/// Returns whether no owner is lent.
 fn are_home(owners: &[RegionOwner]) -> bool
     ensures { result ≡ list_all is_home owners.now }
 {
@@ -29,7 +29,7 @@ fn are_home(owners: &[RegionOwner]) -> bool
 }
 
 impl Owners {
-    /// Tells whether all parts are at home.
+    /// Returns whether all parts are home.
     pub fn all_at_home(&self) -> bool
         ensures { IsTrue result ↔ AllHome self.now.owners }
     {

@@ -1,4 +1,4 @@
-//! Rows that are lent to be read.
+//! The reads that lend rows.
 ghost use Rattle.std.specs.Prelude.{◌≡◌, ◌+◌, true, IfOk, IfErr, MatchResult};
 ghost use Rattle.tatp_rows.specs.Rows.{is_between, is_start_time};
 ghost use Rattle.tatp_rows.specs.declared.ranges.TheConstants.{LAST_SUBSCRIBER};
@@ -14,7 +14,7 @@ use arrayvec::ArrayVec;
 use tatp_rows::{Access, Number, Refusal, Subscriber};
 
 impl Owners {
-    /// Lends the Subscriber row of a subscriber: `Moving`, `NoSubscriber`.
+    /// Lends the Subscriber row of a subscriber. Its refusals, in order, are `Moving` and `NoSubscriber`.
     pub fn lend_subscriber(&self, s_id: u32) -> Result<&Subscriber, Refusal>
         requires subscriber { IsWithin 1 (LAST_SUBSCRIBER + 1) s_id }
         requires home { IsHomeFor s_id self.now }
@@ -29,7 +29,8 @@ impl Owners {
         }
     }
 
-    /// Lends the Access_Info row of a subscriber's access of a type in 1..=4: `Moving`, `NoAccess`.
+    /// Lends the Access_Info row of a subscriber's access of a type in 1..=4. Its refusals, in order, are `Moving` and
+    /// `NoAccess`.
     pub fn lend_access(&self, s_id: u32, ai_type: u8) -> Result<&Access, Refusal>
         requires subscriber { IsWithin 1 (LAST_SUBSCRIBER + 1) s_id }
         requires home { IsHomeFor s_id self.now }
@@ -46,7 +47,7 @@ impl Owners {
     }
 
     /// Finds the numbers to which a facility of a type in 1..=4 forwards a call that starts by one hour and ends after
-    /// another: `Moving`, `NoDestination`.
+    /// another. Its refusals, in order, are `Moving` and `NoDestination`.
     pub fn destinations(
         &self,
         s_id: u32,

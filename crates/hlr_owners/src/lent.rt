@@ -1,4 +1,4 @@
-//! Holdings of parts that are handed out and come home.
+//! The holdings of parts that are lent and come home.
 ghost use Rattle.std.specs.Prelude.{◌≡◌, ℕ, true, false, Some, slice_get, slice_set, slice_index_or};
 ghost use Rattle.part_table.specs.Regions.{place_of};
 ghost use Rattle.tatp_actions.specs.Book.{IsWithin};
@@ -11,7 +11,7 @@ use holding::Holding;
 use part_table::Place;
 
 impl Owners {
-    /// Tells whether a part is at home; where there is no such part, it isn't.
+    /// Returns whether a part is home, and false if there is no such part.
     pub fn at_home(&self, part: u8) -> bool
         ensures { result ≡ slice_index_or (homes_in self.now.owners) part false }
     {
@@ -24,7 +24,7 @@ impl Owners {
         }
     }
 
-    /// Hands the holding of a part out, which is at home. It takes no memory.
+    /// Lends the holding of a part that is home. It takes no memory.
     pub fn lend(&mut self, part: u8) -> Box<Holding>
         requires { slice_index_or (homes_in self.old.owners) part false ≡ true }
         ensures lent { IsLent part self.old result.value self.new }
@@ -47,7 +47,7 @@ impl Owners {
         }
     }
 
-    /// Takes the holding of a part home that was handed out. It takes no memory.
+    /// Takes the lent holding of a part home. It takes no memory.
     pub fn back(&mut self, holding: Box<Holding>)
         requires { (i : ℕ) × IsBackFor (slice_get self.old.owners i) holding.value }
         ensures { (i : ℕ) → IsBackFor (slice_get self.old.owners i) holding.value

@@ -1,7 +1,8 @@
-//! The owners of all regions, in key order, with the board and the spare desk: edits and reads go to the owner of their
-//! subscriber's region, postings to that of a part, and gives, takes, re-cuts, divides and dissolves move rows from
-//! owner to owner. A call looks at up to 32 regions, and then costs what it costs the holding or piece. A part that was
-//! lent has its rows elsewhere until it comes home: calls that work on it ask that it is at home.
+//! The owners of all regions, in the order of keys, with the board and the spare desk. Edits and reads go to the owner
+//! of their subscriber's region, and postings to the holding of their part. Gives, takes, recuts, divides and dissolves
+//! move rows from owner to owner. A call looks at up to 32 regions, and then costs what it costs the holding or the
+//! piece. The rows of a lent part are elsewhere until it comes home, so calls that work on a part require that it is
+//! home.
 #![tactic(auto)]
 
 mod counts;

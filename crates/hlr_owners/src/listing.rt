@@ -1,4 +1,5 @@
-//! Rows that no action reads, to be written out: a facility and a forwarding by its key, and the next subscriber.
+//! The reads that no action makes, for callers who write all rows out: a facility and a forwarding by key, and the next
+//! subscriber.
 ghost use Rattle.std.specs.Prelude.{◌≡◌, ◌+◌, List, true, option_copied};
 ghost use Rattle.tatp_rows.specs.declared.ranges.TheConstants.{LAST_SUBSCRIBER};
 ghost use Rattle.tatp_actions.specs.Book.{IsWithin, first_subscriber};
@@ -11,7 +12,7 @@ use crate::owners::Owners;
 use crate::part_owner::RegionOwner;
 use tatp_rows::{Facility, Forwarding, Refusal, Subscriber};
 
-/// The first Subscriber row from a subscriber on of an owner.
+/// Returns the first Subscriber row of an owner whose s_id is this one or higher.
 fn first_at(owner: &RegionOwner, s_id: u64) -> Option<&Subscriber>
     requires { is_home owner.now ≡ true }
     ensures { option_copied result ≡ first_subscriber s_id (state_of owner.now).part.book.subscribers }
@@ -22,7 +23,7 @@ fn first_at(owner: &RegionOwner, s_id: u64) -> Option<&Subscriber>
     }
 }
 
-/// The same of all owners.
+/// Returns the first such row of all owners.
 fn first_in(owners: &[RegionOwner], s_id: u64) -> Option<&Subscriber>
     requires { AllHome owners.now }
     ensures { option_copied result ≡ first_subscriber s_id (book_in owners.now).subscribers }
@@ -36,7 +37,8 @@ fn first_in(owners: &[RegionOwner], s_id: u64) -> Option<&Subscriber>
 }
 
 impl Owners {
-    /// Returns the Special_Facility row of a subscriber's facility: `Moving`, `NoFacility`. It takes no memory.
+    /// Returns the Special_Facility row of a subscriber's facility. Its refusals, in order, are `Moving` and
+    /// `NoFacility`. It takes no memory.
     pub fn facility(&self, s_id: u32, sf_type: u8) -> Result<Facility, Refusal>
         requires subscriber { IsWithin 1 (LAST_SUBSCRIBER + 1) s_id }
         requires home { IsHomeFor s_id self.now }
@@ -50,8 +52,8 @@ impl Owners {
         }
     }
 
-    /// Returns the Call_Forwarding row of a facility that starts at an hour: `Moving`, `NoForwarding`. It takes no
-    /// memory.
+    /// Returns the Call_Forwarding row of a facility that starts at an hour. Its refusals, in order, are `Moving` and
+    /// `NoForwarding`. It takes no memory.
     pub fn forwarding(&self, s_id: u32, sf_type: u8, hour: u8) -> Result<Forwarding, Refusal>
         requires subscriber { IsWithin 1 (LAST_SUBSCRIBER + 1) s_id }
         requires home { IsHomeFor s_id self.now }
@@ -65,7 +67,8 @@ impl Owners {
         }
     }
 
-    /// Lends the first Subscriber row from a subscriber on, where there is one. It takes no memory.
+    /// Lends the first Subscriber row whose s_id is this one or higher, or returns `None` if there is none. It takes no
+    /// memory.
     pub fn first_sub_from(&self, s_id: u64) -> Option<&Subscriber>
         requires { AllHome self.now.owners }
         ensures { option_copied result ≡ first_subscriber s_id (book_in self.now.owners).subscribers }

@@ -1,4 +1,4 @@
-//! The part that has several subscribers, so that their rows can be looked for side by side.
+//! The part that has several subscribers, so that their rows can be looked up with overlapping memory accesses.
 ghost use Rattle.std.specs.Prelude.{◌≡◌, ◌+◌, IfSome};
 ghost use Rattle.std.specs.List.{All, list_all};
 ghost use Rattle.tatp_rows.specs.declared.ranges.TheConstants.{LAST_SUBSCRIBER};
@@ -13,14 +13,14 @@ use crate::part_owner::RegionOwner;
 use holding::Holding;
 use part_table::Region;
 
-/// Whether a subscriber lies in a region.
+/// Returns whether a region has a subscriber in its range.
 fn lies_in(region: &Region, s_id: u32) -> bool
     ensures { result ≡ lies_in s_id region.now }
 {
     region.lo <= s_id && s_id < region.hi
 }
 
-/// Whether all of these do.
+/// Returns whether a region has all of these subscribers in its range.
 fn all_lie_in(region: &Region, s_ids: &[u32]) -> bool
     ensures { result ≡ list_all (λ s_id. lies_in s_id region.now) s_ids.now }
 {
@@ -33,7 +33,7 @@ fn all_lie_in(region: &Region, s_ids: &[u32]) -> bool
 }
 
 impl Owners {
-    /// Lends the holding of all of these subscribers, to be read, where one part has them all. It takes no memory.
+    /// Lends the holding of all of these subscribers, to be read, if one part has all of them. It takes no memory.
     pub fn holding_of_all(&self, s_ids: &[u32]) -> Option<&Holding>
         requires within { All (IsWithin 1 (LAST_SUBSCRIBER + 1)) s_ids.now }
         requires home { All (λ s_id. IsHomeFor s_id self.now) s_ids.now }

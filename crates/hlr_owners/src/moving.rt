@@ -1,4 +1,4 @@
-//! Stretches that are given away and taken.
+//! The gives and the takes of pieces.
 ghost use Rattle.std.specs.Prelude.{◌≡◌, ◌+◌, ◌<◌};
 ghost use Rattle.part_table.specs.Give.{give_answer, after_give, piece_index};
 ghost use Rattle.part_table.specs.Take.{take_answer, after_take};
@@ -13,7 +13,7 @@ use crate::room::insert_reserved;
 use part_table::Side;
 use tatp_rows::Refusal;
 
-/// Where a piece stands that an owner gives away.
+/// Returns the place of the piece that an owner has given away.
 fn piece_index(side: Side, i: usize) -> usize
     requires { i < 32 }
     ensures { result ≡ piece_index side i }
@@ -24,7 +24,7 @@ fn piece_index(side: Side, i: usize) -> usize
     }
 }
 
-/// Where the part stands that takes a piece from an owner, once that owner is gone.
+/// Returns the place of the part that takes a piece, once the piece's own place is gone.
 fn taker(side: Side, i: usize) -> usize
     ensures { result ≡ taker side i }
 {
@@ -35,9 +35,9 @@ fn taker(side: Side, i: usize) -> usize
 }
 
 impl Owners {
-    /// Gives the stretch of a part on one side of `at` away, as a loose piece with the least free number; the answer is
-    /// that number, and where the piece begins and ends. `NoPart`, `OutOfRange`, `ManyPieces`, `Memory`; a refusal
-    /// changes nothing.
+    /// Cuts a loose piece with the least free number off a part, which is all of the part on one side of `at`. It
+    /// returns the number, and where the piece begins and ends. Its refusals, in order, are `NoPart`, `OutOfRange`,
+    /// `ManyPieces`, and `Memory`, and each of them changes nothing.
     pub fn give(&mut self, part: u64, side: Side, at: u64) -> Result<(u8, u32, u32), Refusal>
         requires home { IsPartHome part self.old }
         ensures answer { MayAnswer (give_answer part side at self.old.regions) result }
@@ -61,8 +61,8 @@ impl Owners {
         Ok(told)
     }
 
-    /// Takes a loose piece into a part that touches it; the answer is the side of the part on which it lies. `NoPiece`,
-    /// `NoPart`, `NotAdjacent`, `Memory`; a refusal changes nothing.
+    /// Joins a loose piece to a part that touches it, and returns the side of the part on which it lay. Its refusals,
+    /// in order, are `NoPiece`, `NoPart`, `NotAdjacent`, and `Memory`, and each of them changes nothing.
     pub fn take(&mut self, piece: u64, part: u64) -> Result<Side, Refusal>
         requires home { IsPartHome part self.old }
         ensures answer { MayAnswer (take_answer piece part self.old.regions) result }

@@ -1,4 +1,4 @@
-//! Owners of parts that have no row.
+//! The opening of owners, whose parts have no row.
 ghost use Rattle.std.specs.Prelude.{◌≡◌, ◌<◌, ◌⊎◌, true, Err, IfOk, OnErr};
 ghost use Rattle.tatp_actions.specs.Part.{IsRange, IsWidth};
 ghost use Rattle.view_board.specs.Desks.{with_view};
@@ -22,8 +22,8 @@ use tatp_actions::Part;
 use tatp_rows::Refusal;
 use view_board::{Board, Desk, WORDS};
 
-/// A board of these words, and the desk that owns all of it, as `Board::open` has them. It is not inlined, so that its
-/// copy of the words has left the stack before a part is made.
+/// Makes a board of these words, and the desk that owns all of it, as `Board::open` does. The function is not inlined,
+/// so that its copy of the words has left the stack before a part is made.
 #[inline(never)]
 fn opened_board(alloc: Global, words: &[u64; WORDS]) -> Result<(Board, Desk), Refusal>
     ensures ok { IfOk result (λ opened. AreSmall words.now × (opened.1.board ≡ opened.0) × (opened.1.view ≡ first_view words.now)) }
@@ -32,8 +32,8 @@ fn opened_board(alloc: Global, words: &[u64; WORDS]) -> Result<(Board, Desk), Re
     Board::open(alloc, words)
 }
 
-/// A slot split off a desk, as `Board::split` does it. It is not inlined, so that its copy of the numbers has left the
-/// stack before a part is made.
+/// Splits a slot off a desk, as `Board::split` does. The function is not inlined, so that its copy of the numbers has
+/// left the stack before a part is made.
 #[inline(never)]
 pub(crate) fn split_off(board: &Board, desk: &mut Desk, slot: u8) -> Result<Desk, Refusal>
     requires board { desk.old.board ≡ board.now }
@@ -45,7 +45,7 @@ pub(crate) fn split_off(board: &Board, desk: &mut Desk, slot: u8) -> Result<Desk
     board.split(desk, slot)
 }
 
-/// A holding in a box; `Memory` where this can't be had.
+/// Puts a holding into a box, or returns `Memory` if the system refuses memory for it.
 #[inline(never)]
 fn boxed(alloc: Global, holding: Holding) -> Result<Box<Holding>, Refusal>
     ensures ok { IfOk result (λ boxed. boxed.value ≡ holding) }
@@ -54,8 +54,8 @@ fn boxed(alloc: Global, holding: Holding) -> Result<Box<Holding>, Refusal>
     Ok(Box::new(alloc, holding)?)
 }
 
-/// A holding with no row, over a slot that is split off the desk of those that no part has yet. `Memory` where a growth
-/// was refused.
+/// Makes a holding without rows, over a slot that is split off the desk of those that no part has yet. It returns
+/// `Memory` if the system refuses memory.
 #[inline(never)]
 fn opened(
     alloc: Global,
@@ -81,9 +81,10 @@ fn opened(
 }
 
 impl Owners {
-    /// Makes empty parts with their shares of all subscribers, no loose piece, and a board of these words, of which
-    /// each part has one slot; `Field` where a word passes `LIMIT`, else `Memory` where a growth was refused. Parts
-    /// have to be 1..=16, the zones' width 1..=524,288, and each slot has to have a net of 0 in each cell.
+    /// Makes empty parts that share all subscribers, no loose piece, and a board of these words, of which each part
+    /// gets one slot. There have to be 1..=16 parts and a zone width of 1..=524,288, and each slot has to have a net of
+    /// 0 for each cell. It returns `Field` if a word passes `LIMIT`, and otherwise `Memory` if the system refuses
+    /// memory.
     pub fn open(alloc: Global, parts: u8, width: u32, words: &[u64; WORDS]) -> Result<Self, Refusal>
         requires can { HasOpening parts width }
         requires level { AreLevel words.now }

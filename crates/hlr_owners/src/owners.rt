@@ -1,4 +1,4 @@
-//! One owner for each region.
+//! The owners, one for each region.
 ghost use Rattle.std.specs.Prelude.{◌≡◌, ◌+◌, ◌<◌, ◌≤◌, true, false, Some, IfOk, OnErr, position, length, if◌then◌else◌, option_map};
 ghost use Rattle.std.specs.Arc.{arc_value};
 ghost use Rattle.part_table.specs.Region.{lies_in};
@@ -27,7 +27,7 @@ use tatp_actions::{Action, Edit};
 use tatp_rows::{LAST_SUBSCRIBER, Number, Refusal};
 use view_board::{Board, Desk, Sight, WORDS};
 
-/// The regions, one owner beside each, in their order, and the board that the parts post to, with the desk of the slots
+/// The regions, with their owners in the same order, and the board to which the parts post, with the desk of the slots
 /// that no part has.
 #[derive(Drop)]
 pub struct Owners {
@@ -53,7 +53,7 @@ impl Model for Owners {
         × AreDesks (arc_value h.board) h.spare (desks_in h.owners.items) × (32 ≤ vec_capacity h.owners) };
 }
 
-/// Why a loose piece refuses an action.
+/// Returns the reason why a loose piece refuses an action.
 fn moving(action: &Action) -> Refusal
     ensures { result ≡ (if is_in_range action.now then Refusal.Moving else Refusal.Field) }
 {
@@ -64,7 +64,7 @@ fn moving(action: &Action) -> Refusal
     }
 }
 
-/// The number of a subscriber of a part, or `None` where there is no such row.
+/// Returns the number of a subscriber of a part, or `None` if there is no such row.
 fn number_of(holding: &Holding, s_id: u32) -> Option<Number>
     ensures { result ≡ option_map (λ row. row.sub_nbr) (subscriber_at holding.now.part.book s_id) }
 {
@@ -73,8 +73,8 @@ fn number_of(holding: &Holding, s_id: u32) -> Option<Number>
 }
 
 impl Owners {
-    /// Tells the prover that each region has its owner beside it, and that the desks are the board's and share its
-    /// slots. It does nothing.
+    /// Tells the prover that each region and its owner have the same place in their lists, and that the desks belong to
+    /// the board and share its slots. The call does nothing.
     #[inline(always)]
     pub fn rules(&self)
         ensures ruled { AreOwners self.now }
@@ -83,7 +83,7 @@ impl Owners {
         let _ = &self.board;
     }
 
-    /// Finds the index of the region of an s_id.
+    /// Finds the place of the region that has an s_id.
     pub fn owner_of(&self, s_id: u32) -> usize
         requires { IsWithin 1 (LAST_SUBSCRIBER + 1) s_id }
         ensures at { position (lies_in s_id) self.now.regions ≡ Some result }
@@ -92,7 +92,7 @@ impl Owners {
         self.regions.index(s_id)
     }
 
-    /// Lends the holding of a subscriber, to be read, or `Moving` where a loose piece has them.
+    /// Lends the holding of a subscriber, to be read, or returns `Moving` if a loose piece has the subscriber.
     pub fn holding_of(&self, s_id: u32) -> Result<&Holding, Refusal>
         requires within { IsWithin 1 (LAST_SUBSCRIBER + 1) s_id }
         requires home { IsHomeFor s_id self.now }
@@ -106,8 +106,8 @@ impl Owners {
         }
     }
 
-    /// Gives the number of a subscriber in the region with this index, or `None` where there is no such row; `Moving`
-    /// where that is a loose piece's.
+    /// Returns the number of a subscriber in the region at this place, or `None` if there is no such row. It returns
+    /// `Moving` if the region is a loose piece's.
     pub fn number_in(&self, i: usize, s_id: u32) -> Result<Option<Number>, Refusal>
         requires owner { position (lies_in s_id) self.now.regions ≡ Some i }
         requires home { IsHomeFor s_id self.now }
@@ -121,8 +121,8 @@ impl Owners {
         }
     }
 
-    /// Does an edit of the rows of its subscriber, who is in the region with this index. Where that is a loose piece's,
-    /// the answer is `Moving`, after `Field`.
+    /// Does an edit for a subscriber in the region at this place. If the region is a loose piece's, its refusals, in
+    /// order, are `Field` and `Moving`.
     pub fn edit_in<E: Edit>(&mut self, i: usize, edit: E) -> Result<(), Refusal>
         requires owner { position (lies_in (s_id_of (E.action edit))) self.old.regions ≡ Some i }
         requires home { IsHomeFor (s_id_of (E.action edit)) self.old }
@@ -140,7 +140,7 @@ impl Owners {
         }
     }
 
-    /// Does an edit of the rows of its subscriber. Where a loose piece has them, the answer is `Moving`, after `Field`.
+    /// Does an edit. If a loose piece has its subscriber, its refusals, in order, are `Field` and `Moving`.
     pub fn edit<E: Edit>(&mut self, edit: E) -> Result<(), Refusal>
         requires within { IsWithin 1 (LAST_SUBSCRIBER + 1) (s_id_of (E.action edit)) }
         requires home { IsHomeFor (s_id_of (E.action edit)) self.old }
@@ -156,7 +156,7 @@ impl Owners {
         self.edit_in(i, edit)
     }
 
-    /// Gives the regions of all subscribers.
+    /// Returns the regions of all subscribers.
     pub fn regions(&self) -> &Regions
         ensures value { result.now ≡ self.now.regions }
         ensures regions { AreRegions result.now }
@@ -175,7 +175,7 @@ impl Owners {
         self.regions.parts()
     }
 
-    /// Gives the width of the zones, 1..=524,288.
+    /// Returns the zone width, 1..=524,288.
     pub fn width(&self) -> u32
         ensures value { result ≡ self.now.width }
         ensures range { IsWidth result }
@@ -183,14 +183,15 @@ impl Owners {
         self.width
     }
 
-    /// Gives the board that the parts post to.
+    /// Returns the board to which the parts post.
     pub fn board(&self) -> &Arc<Board>
         ensures { arc_value result.now ≡ self.now.spare.board }
     {
         &self.board
     }
 
-    /// Loads all words, one after another, by the desk of the slots that no part has.
+    /// Looks at the board with the desk of the slots that no part has: it loads all words, one after another, and
+    /// returns a sight of them.
     pub fn look(&mut self) -> Sight
         ensures right { IsSightOf (store_in self.old) result.words }
         ensures seen { store_in self.new ≡ record (store_in self.old) { sight = result.words } }
@@ -201,7 +202,7 @@ impl Owners {
         sight
     }
 
-    /// Looks as `look` does, into a sight that the caller has: its 18 KB aren't moved.
+    /// Looks as `look` does, into a sight of the caller's, so that its 18 KB needn't be moved.
     pub fn look_into(&mut self, sight: &mut Sight)
         ensures right { IsSightOf (store_in self.old) sight.new.words }
         ensures seen { store_in self.new ≡ record (store_in self.old) { sight = sight.new.words } }

@@ -1,4 +1,4 @@
-//! Who owns a region: a part's holding, at home or lent, or a loose piece.
+//! The owner of a region: the holding of a part, which is home or lent, or a loose piece.
 ghost use Rattle.std.specs.Prelude.{◌≡◌, true, false, Some, IsSome};
 ghost use Rattle.std.specs.Option.Follows.{option_follows_value};
 ghost use Rattle.std.specs.Borrow.{sem};
@@ -9,17 +9,17 @@ use holding::{Holding, Piece};
 use std::marker::Model;
 use std::snapshot::Snapshot;
 
-/// A part's holding, at home or lent; of one that is lent, how it was then.
+/// The holding of a part, home or lent. Of a lent one, this knows how it was when it was lent.
 #[derive(Drop)]
 pub struct PartOwner {
     holding: Option<Box<Holding>>,
     lent: Snapshot<Holding>,
 }
 
-/// Who owns a region.
+/// The owner of a region.
 #[derive(Drop)]
 pub enum RegionOwner {
-    /// A part.
+    /// The holding of a part.
     Part(PartOwner),
     /// A loose piece.
     Piece(Box<Piece>),
@@ -33,7 +33,7 @@ impl Model for PartOwner {
     ghost view = { λ s. part_owner_state s.holding s.lent.value };
 }
 
-/// Lends what a place has, to be changed.
+/// Lends the value in a place, to be changed.
 fn value_mut<T>(place: &mut Option<T>) -> &mut T
     requires { IsSome place.old }
     ensures* writes_back { sem 𝓛 (option_follows_value T.row place.entry result) }
@@ -46,7 +46,7 @@ fn value_mut<T>(place: &mut Option<T>) -> &mut T
 }
 
 impl PartOwner {
-    /// Makes the owner of a part from its holding, at home.
+    /// Makes the owner of a part from its holding, which is home.
     pub fn of(holding: Box<Holding>) -> PartOwner
         ensures { (result.holding ≡ holding.value) × (result.home ≡ true) }
     {
@@ -57,14 +57,14 @@ impl PartOwner {
         }
     }
 
-    /// Tells whether the holding is at home.
+    /// Returns whether the holding is home.
     pub fn is_home(&self) -> bool
         ensures { result ≡ self.now.home }
     {
         self.holding.is_some()
     }
 
-    /// Hands the holding out.
+    /// Lends the holding.
     pub fn lend(&mut self) -> Box<Holding>
         requires { self.old.home ≡ true }
         ensures holding { result.value ≡ self.old.holding }
@@ -81,7 +81,7 @@ impl PartOwner {
         }
     }
 
-    /// Takes a holding home.
+    /// Takes the lent holding home.
     pub fn back(&mut self, holding: Box<Holding>)
         requires { self.old.home ≡ false }
         ensures owner { (self.new.holding ≡ holding.value) × (self.new.home ≡ true) }
@@ -91,7 +91,7 @@ impl PartOwner {
         self.holding = Some(holding);
     }
 
-    /// Lends the holding at home, to be read.
+    /// Lends the holding, which is home, to be read.
     pub fn holding(&self) -> &Holding
         requires { self.now.home ≡ true }
         ensures value { result.now ≡ self.now.holding }
@@ -102,7 +102,7 @@ impl PartOwner {
         }
     }
 
-    /// Lends the holding at home, to be changed.
+    /// Lends the holding, which is home, to be changed.
     pub fn holding_mut(&mut self) -> &mut Holding
         requires { self.old.home ≡ true }
         ensures* writes_back { sem 𝓛 (lends_holding self.entry result) }

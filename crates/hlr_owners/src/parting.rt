@@ -1,4 +1,4 @@
-//! Parts that are divided in two, and dissolved into the one in front.
+//! The parts that are divided in two, and those that are dissolved into the one in front.
 ghost use Rattle.std.specs.Prelude.{◌-◌};
 ghost use Rattle.part_table.specs.Dissolve.{dissolve_answer};
 ghost use Rattle.part_table.specs.Divide.{divide_answer};
@@ -13,10 +13,10 @@ use crate::room::insert_reserved;
 use tatp_rows::Refusal;
 
 impl Owners {
-    /// Divides a part at a subscriber: it keeps what is below, a new part with the next number has the rest and the
-    /// least free slot, and later parts' numbers rise by one. The answer is the new part's number, and where it begins
-    /// and ends. `NoPart`, `OutOfRange`, `ManyParts`, `Memory`; a refusal changes nothing. The part and all behind it
-    /// are at home.
+    /// Divides a part at a subscriber: the part keeps what is below, a new part with the next number gets the rest and
+    /// the least free slot, and the numbers of later parts rise by one. It returns the new part's number, and where it
+    /// begins and ends. Its refusals, in order, are `NoPart`, `OutOfRange`, `ManyParts`, and `Memory`, and each of them
+    /// changes nothing. The part and all behind it must be home.
     pub fn divide(&mut self, part: u64, at: u64) -> Result<(u8, u32, u32), Refusal>
         requires home { IsHomeFrom part self.old }
         ensures answer { MayAnswer (divide_answer part at self.old.regions) result }
@@ -49,10 +49,10 @@ impl Owners {
         Ok(told)
     }
 
-    /// Dissolves a part: the part in front has its rows, what it has published is taken back, its slot is free, and
-    /// later parts' numbers fall by one. The answer is the number of the part in front, and where it begins and ends
-    /// now. `NoPart`, `NotAdjacent`, `Memory`; a refusal changes nothing. The part in front and all behind it are at
-    /// home.
+    /// Dissolves a part: the part in front gets its rows, what it has published is taken back, its slot becomes free,
+    /// and the numbers of later parts fall by one. It returns the number of the part in front, and where that begins
+    /// and ends now. Its refusals, in order, are `NoPart`, `NotAdjacent`, and `Memory`, and each of them changes
+    /// nothing. The part in front and all behind it must be home.
     pub fn dissolve(&mut self, part: u64) -> Result<(u8, u32, u32), Refusal>
         requires home { IsHomeFrom (part - 1) self.old }
         ensures answer { MayAnswer (dissolve_answer part self.old.regions) result }

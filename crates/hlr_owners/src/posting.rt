@@ -11,8 +11,8 @@ use crate::part_owner::RegionOwner;
 use tatp_rows::Refusal;
 
 impl Owners {
-    /// Posts to a part: how many cells were posted. `NoPart` where there is none with the number, `Worn` where a word
-    /// would pass its limit.
+    /// Posts the first `limit` unposted cells of a part, and returns how many it posted. Its refusals, in order, are
+    /// `NoPart` if no part has this number, and `Worn` if a word would pass its limit.
     pub fn post(&mut self, part: u64, limit: u64) -> Result<u8, Refusal>
         requires home { IsPartHome part self.old }
         ensures posted { IsPosting (slots_of (store_in self.old) part) part limit (store_in self.old) result (store_in self.new) }

@@ -1,4 +1,4 @@
-//! Memory for owners that are made of what comes home, and for owners that are taken apart.
+//! The memory for owners that are made of what comes home, and for owners that are taken apart.
 ghost use Rattle.std.specs.Prelude.{◌≡◌, IfOk, OnErr};
 
 use crate::part_owner::RegionOwner;
@@ -28,7 +28,7 @@ impl Model for Rooms {
 }
 
 impl Rooms {
-    /// Room for as many as there can be; `Memory` where that is refused.
+    /// Takes room for as many as there can be, or returns `Memory` if the system refuses it.
     pub(crate) fn new(alloc: Global) -> Result<Rooms, Refusal>
         ensures { OnErr result (result ≡ Err Refusal.Memory) }
     {
@@ -39,11 +39,11 @@ impl Rooms {
     }
 }
 
-/// For how many owners there is room: the most regions that there can be.
+/// How many owners there is room for, which is the greatest number of regions that there can be.
 pub(crate) const MOST_OWNERS: usize = MOST_PARTS as usize + MOST_PIECES as usize;
 
-/// All that owners need besides what is handed in: the regions over it, as which this is seen, and room for what is
-/// moved.
+/// Everything that owners need in addition to what is handed in: the regions, as which this is seen, and room for what
+/// is moved.
 #[derive(Drop)]
 pub struct Prepared {
     pub(crate) regions: Regions,
@@ -64,7 +64,7 @@ impl Model for Prepared {
 }
 
 impl Prepared {
-    /// Regions, and room for the owners beside them; `Memory` where that is refused.
+    /// Takes room for the owners of these regions, or returns `Memory` if the system refuses it.
     pub(crate) fn over(alloc: Global, regions: Regions) -> Result<Prepared, Refusal>
         ensures ok { IfOk result (λ prepared. prepared ≡ regions) }
         ensures err { OnErr result (result ≡ Err Refusal.Memory) }

@@ -1,4 +1,4 @@
-//! What has the rows of a range: a part's holding, or a loose piece.
+//! The owner of the rows of a range, which is a holding or a loose piece.
 ghost use Rattle.std.specs.Prelude.{◌≡◌, ℕ, ◌<◌, List, ℤ};
 ghost use Rattle.tatp_actions.specs.declared.cells.TheConstants.{CELLS};
 ghost use Rattle.part_table.specs.declared.region.Region.{Region};
@@ -9,7 +9,7 @@ ghost use Rattle.hlr_owners.specs.Gather.{holding_range, piece_range};
 use holding::{Holding, Piece};
 use part_table::{Place, Region};
 
-/// An owner of the rows of a range, seen by its range, the width of its zones, and what is pending.
+/// An owner of the rows of a range, seen as its range, its zone width, and what is pending.
 pub(crate) trait RangeOwner {
     ghost range_of: { Self → Region };
 
@@ -19,16 +19,16 @@ pub(crate) trait RangeOwner {
 
     ghost keeps: { Self → Type 0 };
 
-    /// The range, as that of a part or of a loose piece.
+    /// Returns the range, as that of a part or of a loose piece.
     fn range(&self) -> Region
         ensures value { result ≡ range_of self.now }
         ensures rules { keeps self.now };
 
-    /// The width of the zones.
+    /// Returns the zone width.
     fn zone_width(&self) -> u32
         ensures { result ≡ width_of self.now };
 
-    /// What is pending of a cell.
+    /// Returns what is pending of a cell.
     fn delta(&self, cell: u8) -> i64
         requires { cell < CELLS }
         ensures { result ≡ delta_at (deltas_of self.now) cell };

@@ -13,10 +13,10 @@ use part_table::{CutMove, Side};
 use tatp_rows::Refusal;
 
 impl Owners {
-    /// Moves the bounds between parts to these: each that differs by a give and a take. The answer is how many were
-    /// moved. `Field` where the bounds aren't strictly rising ones in 2..=16,777,216, one less than there are parts;
-    /// then `Moving` where a piece is loose; then `Memory`, after which the moves that were done stand, and where a
-    /// take was refused its piece is loose.
+    /// Moves the bounds between the parts to these, with a give and a take for each bound that moves, and returns how
+    /// many it moved. Its refusals, in order, are `Field` if the bounds don't rise strictly in 2..=16,777,216 or aren't
+    /// one less than there are parts, `Moving` if a piece is loose, and `Memory`. After `Memory`, the moves that were
+    /// done stay done, and if a take was refused its piece is loose.
     pub fn recut_to(&mut self, bounds: &[u64]) -> Result<u8, Refusal>
         requires home { IsHomeToCut bounds.now self.old }
         ensures recut { IsRecut bounds.now (store_in self.old) result (store_in self.new) }
@@ -49,7 +49,7 @@ impl Owners {
         }
     }
 
-    /// A part gives the stretch on one side of `at` away, and another part takes it.
+    /// Moves what is on one side of `at` from one part to another, by a give and a take.
     fn hand_over(&mut self, giver: u64, side: Side, at: u64, taker: u64) -> Result<(), Refusal>
         requires can { IsOk (handed_over giver side at taker self.old.regions) }
         requires giver { IsPartHome giver self.old }

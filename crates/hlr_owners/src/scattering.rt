@@ -1,4 +1,4 @@
-//! Owners taken apart, so that each may go to a thread of its own, and made of what comes home.
+//! The owners, taken apart so that each may go to a thread of its own, and made of what comes home.
 ghost use Rattle.std.specs.Prelude.{◌≡◌, ◌+◌, ◌<◌, ℕ, None};
 ghost use Rattle.tatp_actions.specs.Book.{IsRowsOf};
 ghost use Rattle.part_table.specs.Numbered.{numbered};
@@ -16,9 +16,9 @@ use crate::scattered::{Frame, Scattered};
 use tatp_rows::LAST_SUBSCRIBER;
 
 impl Owners {
-    /// Takes the owners apart: the holdings by the number of their part, the loose pieces in the order of their ranges,
-    /// and the frame. It takes no memory. What is gathered of them is the store again, with its loose pieces numbered
-    /// from 1 in the order of their ranges.
+    /// Takes the owners apart, into the holdings by the numbers of their parts, the loose pieces in the order of their
+    /// ranges, and the frame. What `gathered` makes of them is the same store again, with its loose pieces numbered
+    /// from 1 in the order of their ranges. It takes no memory.
     pub fn scatter(self) -> Scattered
         requires home { AllHome self.owners }
         ensures holdings { holdings_in result ≡ part_holdings self.owners }
@@ -53,8 +53,8 @@ impl Owners {
         }
     }
 
-    /// Makes owners of all that is handed in, over these regions, each holding and piece beside its region. It takes no
-    /// memory.
+    /// Makes owners of everything that is handed in, over these regions, with each holding and each piece in the place
+    /// of its region. It takes no memory.
     pub fn gathered(scattered: Scattered, prepared: Prepared) -> Owners
         requires surveyed { IsSurveyed scattered prepared }
         requires desks { MayBeGathered scattered }

@@ -1,4 +1,4 @@
-//! A part with what its owner has posted and what it has not.
+//! The holding: a part with its pending deltas and its desk.
 ghost use Rattle.std.specs.Prelude.{◌≡◌, ℕ, ◌<◌, ◌≤◌, ◌+◌, ◌^◌, ◌↔◌, option_copied, IfOk, IsTrue, slice_index, slice_index_or, ℤ, pos, neg_ℤ, ◌+ℤ◌, ◌-ℤ◌, ◌≤ℤ◌};
 ghost use Rattle.tatp_actions.specs.Action.{s_id_of, done_reply, IsOutcome};
 ghost use Rattle.tatp_actions.specs.Book.{IsWithin, first_subscriber};
@@ -18,11 +18,12 @@ use tatp_rows::{Refusal, Subscriber};
 use view_board::{Board, Desk};
 use view_delta::Pending;
 
-/// A part with what is pending of each cell, and the desk of its owner. What the desk has published of a cell and what
-/// is pending of it are together the count over the part's rows.
+/// A part with what is pending of each cell, and its desk. What the desk has published of a cell and what is pending of
+/// it add up to the count over the part's rows.
 ///
-/// The desk comes out as the holding is dissolved, and else never. So a holding that is dropped takes its slot along,
-/// and since a register is made of desks that have each slot once, none can be made of the others then.
+/// The desk comes out when the holding is dissolved, and in no other way. So a holding that is dropped takes its slot
+/// with it. Because a register is made of desks that together have each slot once, no register can be made of the other
+/// holdings then.
 #[derive(Drop)]
 pub struct Holding<R: Rows = Trees> {
     pub(crate) part: Part<R>,
@@ -30,7 +31,7 @@ pub struct Holding<R: Rows = Trees> {
     pub(crate) desk: Desk,
     // The least slot of the desk, whose words a posting raises.
     pub(crate) slot: u8,
-    // For the calls that give parts away and take them, divide and dissolve.
+    // The allocator, for the calls that give, take, divide and dissolve.
     pub(crate) alloc: Global,
 }
 
@@ -44,7 +45,7 @@ impl<R: Rows> Model for Holding<R> {
     ghost invariant = { λ h. IsHolding (record { part = h.part; pending = h.pending; desk = h.desk; slot = h.slot }) };
 }
 
-/// The least slot of a desk that owns one.
+/// Returns the least slot of a desk that owns one.
 pub(crate) fn least_slot(desk: &Desk) -> u8
     requires { (slot : ℕ) × Owns desk.now.view slot }
     ensures below { result < SLOTS }
@@ -56,7 +57,7 @@ pub(crate) fn least_slot(desk: &Desk) -> u8
     }
 }
 
-/// A count less what is published of it.
+/// Returns a count less what is published of it.
 fn difference(count: u64, net: i128) -> i64
     requires few { count ≤ 2 ^ 40 }
     requires low { neg_ℤ (pos (2 ^ 40)) ≤ℤ net }
@@ -66,7 +67,7 @@ fn difference(count: u64, net: i128) -> i64
     (i128::from(count) - net) as i64
 }
 
-/// What is pending of counts: by how much they differ from what a desk has published.
+/// Returns what is pending, given counts and a desk: the difference between the counts and what the desk has published.
 fn pending_of(counts: &Cells, desk: &Desk) -> [i64; CELLS as usize]
     requires few { (c : ℕ) → c < CELLS → slice_index counts.now c ≤ 2 ^ 40 }
     requires small { HasSmallNets desk.now.view }
@@ -82,11 +83,12 @@ fn pending_of(counts: &Cells, desk: &Desk) -> [i64; CELLS as usize]
 }
 
 impl<R: Rows> Holding<R> {
-    /// Does an action on the rows, and moves what is pending by its change.
+    /// Does an action on the rows of a subscriber in the range, and adds its change to what is pending.
     ///
-    /// The subscriber is in the range. `Field` comes first, where a field is out of its range, then the refusals of the
-    /// rows; `Memory` comes only in place of `Done` where a row is added. A number that another subscriber has is no
-    /// refusal here: whoever has all parts refuses it. After a refusal the rows and what is pending are as before.
+    /// It returns `Field` if a field is out of its range, and otherwise the refusals of the rows, where `Memory` comes
+    /// only in place of `Done`, and only if a row is added. A number that another subscriber has is no refusal here,
+    /// because only the register knows all numbers, and refuses it. After a refusal the rows and what is pending are as
+    /// before.
     pub fn act(&mut self, action: Action) -> RowReply
         requires { IsWithin self.old.part.lo self.old.part.hi (s_id_of action) }
         ensures outcome { IsOutcome action self.old.part.book result self.new.part.book }
@@ -102,8 +104,8 @@ impl<R: Rows> Holding<R> {
         reply
     }
 
-    /// Does an action that changes rows, as `act` does the action that it is: `Field` first, then the refusals of the
-    /// rows, `Memory` only where a row is added. After a refusal the rows and what is pending are as before.
+    /// Does an edit, as `act` does the action that it is. Its refusals, in order, are `Field` and those of the rows,
+    /// where `Memory` comes only if a row is added. After a refusal the rows and what is pending are as before.
     pub fn edit<E: Edit>(&mut self, edit: E) -> Result<(), Refusal>
         requires { IsWithin self.old.part.lo self.old.part.hi (s_id_of (E.action edit)) }
         ensures outcome { IsOutcome (E.action edit) self.old.part.book (done_reply result) self.new.part.book }
@@ -119,7 +121,8 @@ impl<R: Rows> Holding<R> {
         Ok(())
     }
 
-    /// Posts what is pending of a cell. `Worn` where the word would pass its limit: then nothing is changed.
+    /// Posts what is pending of a cell. It returns `Worn` if the word would pass its limit, and then nothing has
+    /// changed.
     fn post_cell(&mut self, board: &Board, cell: u8) -> Result<(), Refusal>
         requires board { self.old.desk.board ≡ board.now }
         requires cell { cell < CELLS }
@@ -131,10 +134,10 @@ impl<R: Rows> Holding<R> {
         Ok(())
     }
 
-    /// Posts what is pending to the words of the desk's least slot, cells ascending, each whole and in one step, until
-    /// `limit` are posted or none is left; tells how many were, at most `CELLS`, and so in how many steps the desk
-    /// raised words. `Worn` stops it at a cell whose word would pass its limit: the cells before stay posted, and that
-    /// cell stays pending.
+    /// Posts what is pending to the words of the desk's least slot, in the ascending order of the cells, each one whole
+    /// and in one step, until `limit` cells are posted or none is left. It returns how many it posted, at most `CELLS`,
+    /// which is also the number of steps in which the desk raised words. `Worn` stops it at a cell whose word would
+    /// pass its limit. The cells before that one stay posted, and that cell stays pending.
     pub fn post(&mut self, board: &Board, limit: u64) -> Result<u8, Refusal>
         requires { self.old.desk.board ≡ board.now }
         ensures posted { (result, self.new.desk.view) ≡ post (count_of self.old.part) self.old.slot limit self.old.desk.view }
@@ -161,8 +164,8 @@ impl<R: Rows> Holding<R> {
 }
 
 impl Holding {
-    /// Makes a holding of a part and the desk of its owner, which owns a slot and has published at most 2^40 of each
-    /// cell, up or down. The rows are counted once: what the desk has not published of them is pending. It keeps the
+    /// Makes a holding of a part and a desk, which owns one slot and has published at most 2^40 of each cell, up or
+    /// down. The rows are counted once, and what the desk has not published of them is pending. The holding keeps the
     /// allocator.
     pub fn of(alloc: Global, part: Part, desk: Desk) -> Self
         requires slot { (slot : ℕ) × (slot < SLOTS) × Owns desk.view slot }
@@ -185,7 +188,7 @@ impl Holding {
         }
     }
 
-    /// Tells the prover that the holding keeps its rules. It does nothing.
+    /// Tells the prover that the holding keeps its rules. The call does nothing.
     #[inline(always)]
     pub fn rules(&self)
         ensures { IsHolding self.now }
@@ -193,28 +196,28 @@ impl Holding {
         let _ = &self.part;
     }
 
-    /// Gives the first subscriber of the range, 1..=16,777,216.
+    /// Returns the first subscriber of the range, 1..=16,777,216.
     pub fn lo(&self) -> u32
         ensures { result ≡ self.now.part.lo }
     {
         self.part.lo()
     }
 
-    /// Gives the end of the range: one past its last subscriber, at most 16,777,217.
+    /// Returns the end of the range: one past its last subscriber, at most 16,777,217.
     pub fn hi(&self) -> u32
         ensures { result ≡ self.now.part.hi }
     {
         self.part.hi()
     }
 
-    /// Gives the width of the zones, 1..=524,288.
+    /// Returns the zone width, 1..=524,288.
     pub fn width(&self) -> u32
         ensures { result ≡ self.now.part.width }
     {
         self.part.width()
     }
 
-    /// Gives what is pending of a cell below `CELLS`.
+    /// Returns what is pending of a cell below `CELLS`.
     pub fn pending(&self, cell: u8) -> i64
         requires { cell < CELLS }
         ensures { result ≡ delta_at self.now.pending cell }
@@ -222,14 +225,14 @@ impl Holding {
         self.pending.get(cell)
     }
 
-    /// Tells whether the slot is the desk's; one past the last is nobody's.
+    /// Returns whether the desk has this slot. No desk has the number behind the last slot.
     pub fn owns(&self, slot: u8) -> bool
         ensures { IsTrue result ↔ Owns self.now.desk.view slot }
     {
         self.desk.owns(slot)
     }
 
-    /// Gives what the desk has published of a cell below `CELLS`.
+    /// Returns what the desk has published of a cell below `CELLS`.
     #[inline(always)]
     pub fn net(&self, cell: u8) -> i128
         requires { cell < CELLS }
@@ -238,14 +241,14 @@ impl Holding {
         self.desk.net(cell)
     }
 
-    /// Gives what the desk has published of each cell.
+    /// Returns what the desk has published of each cell.
     pub fn nets(&self) -> [i128; CELLS as usize]
         ensures { (c : ℕ) → c < CELLS → slice_index_or result c (pos 0) ≡ net_of self.now.desk.view c }
     {
         self.desk.nets()
     }
 
-    /// Adds what the desk, which owns one slot, has published of each cell to a sum; no sum is past 2^60, either way.
+    /// Adds what the desk, which owns one slot, has published of each cell to a sum. No sum passes 2^60, up or down.
     #[inline(always)]
     pub fn add_nets(&self, sums: &mut [i64; CELLS as usize])
         requires alone { (slot : ℕ) × OwnsAlone self.now.desk.view slot }
@@ -262,7 +265,7 @@ impl Holding {
         self.part.recount()
     }
 
-    /// Finds the first Subscriber row of the part from a subscriber on.
+    /// Finds the first Subscriber row of the part whose s_id is this one or higher.
     pub fn first_sub_from(&self, s_id: u64) -> Option<&Subscriber>
         ensures { option_copied result ≡ first_subscriber s_id self.now.part.book.subscribers }
     {

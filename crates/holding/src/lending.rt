@@ -8,36 +8,36 @@ use arrayvec::ArrayVec;
 use tatp_rows::{Access, Facility, Forwarding, Number, Subscriber};
 
 impl Holding {
-    /// Lends the Subscriber row of a subscriber, where there is one.
+    /// Lends the Subscriber row of a subscriber, or returns `None` if there is none.
     pub fn lend_subscriber(&self, s_id: u32) -> Option<&Subscriber>
         ensures { option_copied result ≡ subscriber_at self.now.part.book s_id }
     {
         self.part.lend_subscriber(s_id)
     }
 
-    /// Lends the Access_Info row of a subscriber's access, where there is one.
+    /// Lends the Access_Info row of a subscriber's access, or returns `None` if there is none.
     pub fn lend_access(&self, s_id: u32, ai_type: u8) -> Option<&Access>
         ensures { option_copied result ≡ access_at self.now.part.book s_id ai_type }
     {
         self.part.lend_access(s_id, ai_type)
     }
 
-    /// Lends the Special_Facility row of a subscriber's facility, where there is one.
+    /// Lends the Special_Facility row of a subscriber's facility, or returns `None` if there is none.
     pub fn lend_facility(&self, s_id: u32, sf_type: u8) -> Option<&Facility>
         ensures { option_copied result ≡ facility_at self.now.part.book s_id sf_type }
     {
         self.part.lend_facility(s_id, sf_type)
     }
 
-    /// Lends the Call_Forwarding row of a facility that starts at an hour, where there is one.
+    /// Lends the Call_Forwarding row of a facility that starts at an hour, or returns `None` if there is none.
     pub fn lend_forwarding(&self, s_id: u32, sf_type: u8, hour: u8) -> Option<&Forwarding>
         ensures { option_copied result ≡ forwarding_at self.now.part.book s_id sf_type hour }
     {
         self.part.lend_forwarding(s_id, sf_type, hour)
     }
 
-    /// Tells the numbers of the forwardings of an active facility that start by one hour and end after another, in the
-    /// order of their start times: at most three, and none where the facility isn't active.
+    /// Returns the numbers of the forwardings of an active facility that start by one hour and end after another, in
+    /// the order of their start times. There are at most three, and none if the facility isn\'t active.
     pub fn destinations(
         &self,
         s_id: u32,

@@ -1,7 +1,7 @@
-//! A part of the store with its owner's deltas and desk: of each cell what the desk has published and what is pending
-//! are together the count over the part's rows, whenever a call returns. An action costs what it costs the part and an
-//! addition for each cell that it moves, a posting an atomic addition for each cell that it posts. No look at the board
-//! sees what is pending, and nothing posts by itself.
+//! A part of the store with its pending deltas and its desk. Whenever a call returns, what the desk has published and
+//! what is pending of each cell add up to the count over the part's rows. An action costs what it costs the part, and
+//! an addition for each cell that it moves. A posting costs an atomic addition for each cell that it posts. A look at
+//! the board doesn't see what is pending, and nothing is posted without a call.
 #![tactic(auto)]
 
 mod holding;

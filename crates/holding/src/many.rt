@@ -1,4 +1,4 @@
-//! Rows and destinations of several subscribers of a holding's part, looked for side by side.
+//! The rows and destinations of several subscribers of a holding's part, looked up with overlapping memory accesses.
 ghost use Rattle.std.specs.Prelude.{◌≡◌, ◌≤◌, [], length, map};
 ghost use Rattle.tatp_actions.specs.Action.{destinations};
 ghost use Rattle.tatp_actions.specs.Book.{subscriber_at, access_at};
@@ -8,8 +8,8 @@ use arrayvec::ArrayVec;
 use tatp_rows::{Access, Number, Subscriber};
 
 impl Holding {
-    /// Puts the Subscriber rows of up to 16 subscribers into an empty list, one for each in their order, `None` where
-    /// there is none. The rows are looked for side by side, so that their waits for memory overlap.
+    /// Puts the Subscriber rows of up to 16 subscribers into an empty list, one for each in their order, with `None` if
+    /// there is none. The rows are looked up with overlapping memory accesses, so that their waits for memory overlap.
     pub fn copy_subscribers(&self, s_ids: &[u32], rows: &mut ArrayVec<Option<Subscriber>, 16>)
         requires few { length s_ids.now ≤ 16 }
         requires empty { rows.old.items ≡ [] }
@@ -18,8 +18,8 @@ impl Holding {
         self.part.copy_subscribers(s_ids, rows);
     }
 
-    /// Puts up to 16 Access_Info rows into an empty list, each asked by its s_id and ai_type, in the order in which
-    /// they are asked, `None` where there is none. The rows are looked for side by side.
+    /// Puts up to 16 Access_Info rows into an empty list, each asked for by its s_id and ai_type, in the order of the
+    /// queries, with `None` if there is none. The rows are looked up with overlapping memory accesses.
     pub fn copy_access(&self, asked: &[(u32, u8)], rows: &mut ArrayVec<Option<Access>, 16>)
         requires few { length asked.now ≤ 16 }
         requires empty { rows.old.items ≡ [] }
@@ -28,9 +28,9 @@ impl Holding {
         self.part.copy_access(asked, rows);
     }
 
-    /// Puts the numbers to which up to 16 calls are forwarded into an empty list, as `destinations` tells them, of each
-    /// call by its s_id, sf_type, start_time and end_time, in the order in which they are asked. The rows are looked
-    /// for side by side.
+    /// Puts the numbers to which up to 16 calls are forwarded into an empty list, as `destinations` returns them, in
+    /// the order of the queries. Each call is asked for by its s_id, sf_type, start_time and end_time. The rows are
+    /// looked up with overlapping memory accesses.
     pub fn copy_destinations(
         &self,
         asked: &[(u32, u8, u8, u8)],

@@ -1,4 +1,4 @@
-//! Pieces that a holding gives away and takes.
+//! The pieces that a holding gives away and takes.
 ghost use Rattle.std.specs.Prelude.{◌≡◌, ◌⊎◌, ◌↔◌, IsTrue, Err, IfOk, IfErr, OnOk, OnErr, map, pos};
 ghost use Rattle.tatp_actions.specs.Book.{empty_book};
 ghost use Rattle.tatp_actions.specs.Cut.{Touch};
@@ -15,14 +15,14 @@ use tatp_actions::{Cells, Part};
 use tatp_rows::{Back, Refusal};
 use view_delta::Pending;
 
-/// Whether a subscriber is strictly inside the range of a part.
+/// Returns whether a subscriber is strictly inside the range of a part.
 pub(crate) fn is_inside(part: &Part, at: u32) -> bool
     ensures { IsTrue result ↔ IsInside at part.now }
 {
     part.lo() < at && at < part.hi()
 }
 
-/// Whether the range of one part ends where that of the other one begins.
+/// Returns whether the range of one part ends where that of the other one begins.
 fn touches(part: &Part, other: &Part) -> bool
     ensures { IsTrue result ↔ Touch part.now other.now }
 {
@@ -30,11 +30,11 @@ fn touches(part: &Part, other: &Part) -> bool
 }
 
 impl Holding {
-    /// Gives the stretch on one side of a subscriber away as a loose piece, whose rows are counted once: on the high
-    /// side it has the subscriber and all above, on the low side all below.
+    /// Cuts a loose piece off the part at a subscriber, and counts its rows once. On the high side, the piece has the
+    /// subscriber and all above, and on the low side all below.
     ///
-    /// `OutOfRange` where the subscriber is not strictly inside the range, `Memory` where a growth was refused: then
-    /// nothing is changed.
+    /// Its refusals, in order, are `OutOfRange` if the subscriber is not strictly inside the range, and `Memory` if the
+    /// system refuses memory. After a refusal, nothing has changed.
     pub fn give(&mut self, side: Side, at: u32) -> Result<Box<Piece>, Refusal>
         ensures given { IfOk result (λ piece. IsGiven side at self.old piece.value self.new) }
         ensures refused { OnErr result (self.new ≡ self.old) }
@@ -46,7 +46,7 @@ impl Holding {
         if !is_inside(&self.part, at) {
             return Err(Refusal::OutOfRange);
         }
-        // All memory is had before anything changes: the piece's box, and what the cut takes.
+        // All memory is taken before anything changes: the piece's box, and what the cut needs.
         let mut piece = Piece::boxed(self.alloc)?;
         match self.cut_off(side, at, &mut piece) {
             Ok(()) => Ok(piece),
@@ -57,8 +57,8 @@ impl Holding {
         }
     }
 
-    /// Cuts the stretch on one side of a subscriber strictly inside the range off into a piece, whose rows are counted
-    /// once. `Memory` where a growth was refused: then nothing is changed.
+    /// Cuts everything on one side of a subscriber strictly inside the range off into a piece, whose rows are counted
+    /// once. It returns `Memory` if the system refuses memory, and then nothing has changed.
     fn cut_off(&mut self, side: Side, at: u32, piece: &mut Piece) -> Result<(), Refusal>
         requires { IsInside at self.old.part }
         ensures given { OnOk result (IsGiven side at self.old piece.new self.new) }
@@ -72,8 +72,8 @@ impl Holding {
         Ok(())
     }
 
-    /// Cuts the stretch on one side of a subscriber strictly inside the range off into another part, whose rows are
-    /// counted once: the counts. `Memory` where a growth was refused: then nothing is changed.
+    /// Cuts everything on one side of a subscriber strictly inside the range off into another part, counts its rows
+    /// once, and returns the counts. It returns `Memory` if the system refuses memory, and then nothing has changed.
     pub(crate) fn cut_into(
         &mut self,
         side: Side,
@@ -93,10 +93,10 @@ impl Holding {
         Ok(counts)
     }
 
-    /// Takes a loose piece of the same width of zones. No row is counted.
+    /// Joins a loose piece with the same zone width to the part. No row is counted.
     ///
-    /// `NotAdjacent` where it doesn't touch the part, `Memory` where a growth was refused: then nothing is changed, and
-    /// the piece is handed back as it came.
+    /// Its refusals, in order, are `NotAdjacent` if the piece doesn't touch the part, and `Memory` if the system
+    /// refuses memory. After a refusal, nothing has changed, and the piece is handed back as it came.
     pub fn take(&mut self, mut piece: Box<Piece>) -> Result<(), Back<Box<Piece>>>
         requires { self.old.part.width ≡ piece.value.part.width }
         ensures piece { IsPiece piece.value }
@@ -119,8 +119,8 @@ impl Holding {
         Ok(())
     }
 
-    /// Takes the rows of a piece that touches the part, with their counts: the piece has no row then. `Memory` where a
-    /// growth was refused: then nothing is changed.
+    /// Takes the rows of a piece that touches the part, with their counts, and leaves the piece without rows. It
+    /// returns `Memory` if the system refuses memory, and then nothing has changed.
     fn take_out(&mut self, piece: &mut Piece) -> Result<(), Refusal>
         requires touch { Touch self.old.part piece.old.part }
         requires width { self.old.part.width ≡ piece.old.part.width }
@@ -137,8 +137,9 @@ impl Holding {
         Ok(())
     }
 
-    /// Takes in a part that touches this one, with what is pending then: the counts of its rows too. The other part has
-    /// no row then. `Memory` where a growth was refused: then nothing is changed.
+    /// Takes the rows of a part that touches this one, and leaves it without rows. What is pending afterwards, which
+    /// includes the counts of its rows, is handed in. It returns `Memory` if the system refuses memory, and then
+    /// nothing has changed.
     pub(crate) fn take_in(&mut self, part: &mut Part, pending: Pending) -> Result<(), Refusal>
         requires touch { Touch self.old.part part.old }
         requires width { self.old.part.width ≡ part.old.width }

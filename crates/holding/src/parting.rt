@@ -1,4 +1,4 @@
-//! Holdings that are divided in two, and dissolved into the one in front.
+//! The holdings that are divided in two, and those that are dissolved into the one in front.
 ghost use Rattle.std.specs.Prelude.{◌≡◌, ◌⊎◌, ℕ, ◌<◌, ◌≤◌, ◌^◌, Err, IfOk, IfErr, OnOk, OnErr, ℤ, pos, neg_ℤ, ◌+ℤ◌, ◌≤ℤ◌};
 ghost use Rattle.tatp_actions.specs.declared.cells.TheConstants.{CELLS};
 ghost use Rattle.view_board.specs.Desks.{with_view};
@@ -20,7 +20,7 @@ use tatp_rows::{Back, Refusal};
 use view_board::{Board, Desk};
 use view_delta::Pending;
 
-/// A delta with a count, of which so much is published and so much pending.
+/// Returns a delta to which a count was added, of which one share is published and the other pending.
 fn raised(delta: i64, net: i128, pending: i64) -> i64
     requires delta { (neg_ℤ (pos (2 ^ 60)) ≤ℤ delta) × (delta ≤ℤ pos (2 ^ 60)) }
     requires net { (neg_ℤ (pos (2 ^ 60)) ≤ℤ net) × (net ≤ℤ pos (2 ^ 60)) }
@@ -30,7 +30,7 @@ fn raised(delta: i64, net: i128, pending: i64) -> i64
     (i128::from(delta) + net + i128::from(pending)) as i64
 }
 
-/// Takes back all that a desk with one slot has published: its net is 0 in each cell then.
+/// Takes back everything that a desk with one slot has published, so that its net is 0 for each cell.
 #[tactic(auto, using(view_board::proofs::BackLemmas::none_back))]
 fn withdraw(board: &Board, desk: &mut Desk, slot: u8)
     requires board { desk.old.board ≡ board.now }
@@ -42,7 +42,7 @@ fn withdraw(board: &Board, desk: &mut Desk, slot: u8)
     board.take_back(desk, slot);
 }
 
-/// The desk of a holding in a box; the rows are let go.
+/// Returns the desk of a holding in a box, and drops the rows.
 #[inline(never)]
 fn let_go(holding: Box<Holding>) -> Desk
     ensures { result ≡ holding.value.desk }
@@ -51,12 +51,12 @@ fn let_go(holding: Box<Holding>) -> Desk
 }
 
 impl Holding {
-    /// Divides the part at a subscriber: it keeps all below, and a new holding with this desk has the subscriber and
-    /// all above. The new part's rows are counted once, and nothing of them is published yet. The desk owns one slot,
-    /// and has published a net of 0 of each cell.
+    /// Divides the part at a subscriber: the part keeps all below, and a new holding with this desk gets the subscriber
+    /// and all above. The new part's rows are counted once, and nothing of them is published yet. The desk must own one
+    /// slot, and have published a net of 0 of each cell.
     ///
-    /// `OutOfRange` where the subscriber is not strictly inside the range, `Memory` where a growth was refused: then
-    /// nothing is changed, and the desk is handed back as it came.
+    /// Its refusals, in order, are `OutOfRange` if the subscriber is not strictly inside the range, and `Memory` if the
+    /// system refuses memory. After a refusal, nothing has changed, and the desk is handed back as it came.
     pub fn divide(&mut self, at: u32, desk: Desk) -> Result<Box<Holding>, Back<Desk>>
         requires { IsBlankDesk desk.view }
         ensures divided { IfOk result (λ new. IsHoldingDivided at self.old desk new.value self.new) }
@@ -72,7 +72,7 @@ impl Holding {
                 item: desk,
             });
         }
-        // All memory is had before anything changes: the new holding's box, and what the cut takes.
+        // All memory is taken before anything changes: the new holding's box, and what the cut needs.
         let mut new = match Holding::boxed(self.alloc, desk) {
             Ok(new) => new,
             Err(desk) => {
@@ -91,12 +91,12 @@ impl Holding {
         }
     }
 
-    /// Takes the rows of the holding behind it, of the same width of zones, which is dissolved: of each cell that its
-    /// desk has published the lower word is raised to the higher, in one step, and the desk is handed out, with a net
-    /// of 0 in each cell. Its one slot is free then. No row is counted.
+    /// Takes the rows of the holding behind this one, which has the same zone width and is dissolved. For each cell
+    /// that its desk has published, the lower word is raised to the higher one, in one step. The desk is handed out,
+    /// with a net of 0 for each cell, so its one slot is free then. No row is counted.
     ///
-    /// `NotAdjacent` where the other range doesn't begin where this one ends, `Memory` where a growth was refused: then
-    /// nothing is changed, and the holding is handed back as it came.
+    /// Its refusals, in order, are `NotAdjacent` if the other range doesn't begin where this one ends, and `Memory` if
+    /// the system refuses memory. After a refusal, nothing has changed, and the holding is handed back as it came.
     pub fn dissolve(
         &mut self,
         board: &Board,
@@ -126,7 +126,7 @@ impl Holding {
         Ok(let_go(other))
     }
 
-    /// A holding with no row, of which nothing is published and nothing pending.
+    /// Makes a holding without rows, of which nothing is published and nothing pending.
     #[inline(never)]
     fn blank(alloc: Global, desk: Desk) -> Self
         requires { IsBlankDesk desk.view }
@@ -140,8 +140,8 @@ impl Holding {
         Holding::of(alloc, part, desk)
     }
 
-    /// A holding with no row, of which nothing is published and nothing pending, in a box: the desk where this can't be
-    /// had.
+    /// Makes a holding without rows in a box, of which nothing is published and nothing pending. It hands the desk back
+    /// if the system refuses memory.
     #[inline(never)]
     fn boxed(alloc: Global, desk: Desk) -> Result<Box<Self>, Desk>
         requires { IsBlankDesk desk.view }
@@ -156,8 +156,8 @@ impl Holding {
         }
     }
 
-    /// Cuts the stretch from a subscriber strictly inside the range on off into a new holding, of which nothing is
-    /// published and nothing pending. `Memory` where a growth was refused: then nothing is changed.
+    /// Cuts everything from a subscriber strictly inside the range on off into a new holding, of which nothing is
+    /// published and nothing pending. It returns `Memory` if the system refuses memory, and then nothing has changed.
     fn fill(&mut self, at: u32, new: &mut Holding) -> Result<(), Refusal>
         requires inside { IsInside at self.old.part }
         requires idle { (c : ℕ) → c < CELLS → net_of new.old.desk.view c ≡ pos 0 }
@@ -175,7 +175,7 @@ impl Holding {
         Ok(())
     }
 
-    /// The desk; the rows are let go.
+    /// Returns the desk, and drops the rows.
     fn into_desk(self) -> Desk
         ensures { result ≡ self.desk }
     {
@@ -184,8 +184,8 @@ impl Holding {
         desk
     }
 
-    /// Takes the rows of the holding behind it. That one's desk takes back all that it has published, and no row is
-    /// left there. `Memory` where a growth was refused: then nothing is changed.
+    /// Takes the rows of the holding behind this one, and leaves it without rows. The other desk takes back everything
+    /// that it has published. It returns `Memory` if the system refuses memory, and then nothing has changed.
     fn absorb(&mut self, board: &Board, other: &mut Holding) -> Result<(), Refusal>
         requires width { self.old.part.width ≡ other.old.part.width }
         requires board { other.old.desk.board ≡ board.now }
@@ -206,7 +206,8 @@ impl Holding {
         Ok(())
     }
 
-    /// What is pending with the counts of another holding too: what that one has published, and what is pending there.
+    /// Returns what is pending here once the counts of another holding are added, which are what that one has published
+    /// and what it has pending.
     fn pending_with(&self, other: &Holding) -> Pending
         ensures { IsPendingWith other.now.part self.now.pending result }
     {

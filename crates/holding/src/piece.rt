@@ -1,4 +1,4 @@
-//! A loose part.
+//! The loose piece.
 ghost use Rattle.std.specs.Prelude.{◌≡◌, ℕ, ◌<◌, ◌≤◌, ◌^◌, option_copied, slice_index, pos, IfErr};
 ghost use Rattle.tatp_actions.specs.Book.{empty_book, first_subscriber};
 ghost use Rattle.tatp_actions.specs.declared.cells.TheConstants.{CELLS};
@@ -10,8 +10,8 @@ use std::marker::Model;
 use tatp_actions::{Cells, Part};
 use tatp_rows::{Refusal, Subscriber};
 
-/// A loose part, which a holding gave away and none has taken, with what is pending of each cell: as nobody has posted
-/// anything of it, the counts of its rows.
+/// A loose piece, which a holding gave away and none has taken yet, with what is pending of each cell. Because nothing
+/// of it is published, these are the counts of its rows.
 #[derive(Drop)]
 pub struct Piece {
     pub(crate) part: Part,
@@ -29,7 +29,7 @@ impl Model for Piece {
     ghost invariant = { λ p. IsPiece (record { part = p.part; pending = map pos p.pending }) };
 }
 
-/// Gives a count as a delta.
+/// Returns a count as a delta.
 fn delta_of(count: u64) -> i64
     requires { count ≤ 2 ^ 40 }
     ensures { result ≡ pos count }
@@ -38,7 +38,7 @@ fn delta_of(count: u64) -> i64
 }
 
 impl Piece {
-    /// A piece with no row, which takes no memory.
+    /// Makes a piece without rows. It takes no memory.
     pub(crate) fn blank(alloc: Global) -> Self
         ensures { result.part.book ≡ empty_book }
     {
@@ -53,7 +53,7 @@ impl Piece {
         }
     }
 
-    /// A piece with no row, in a box: `Memory` where this can't be had.
+    /// Makes a piece without rows, in a box. It returns `Memory` if the system refuses memory for this.
     #[inline(never)]
     pub(crate) fn boxed(alloc: Global) -> Result<Box<Self>, Refusal>
         ensures { IfErr result (λ why. why ≡ Refusal.Memory) }
@@ -61,7 +61,7 @@ impl Piece {
         Ok(Box::new(alloc, Piece::blank(alloc))?)
     }
 
-    /// Tells the prover that the piece keeps its rules. It does nothing.
+    /// Tells the prover that the piece keeps its rules. The call does nothing.
     #[inline(always)]
     pub fn rules(&self)
         ensures { IsPiece self.now }
@@ -69,28 +69,28 @@ impl Piece {
         let _ = &self.part;
     }
 
-    /// Gives the first subscriber of the range, 1..=16,777,216.
+    /// Returns the first subscriber of the range, 1..=16,777,216.
     pub fn lo(&self) -> u32
         ensures { result ≡ self.now.part.lo }
     {
         self.part.lo()
     }
 
-    /// Gives the end of the range: one past its last subscriber, at most 16,777,217.
+    /// Returns the end of the range: one past its last subscriber, at most 16,777,217.
     pub fn hi(&self) -> u32
         ensures { result ≡ self.now.part.hi }
     {
         self.part.hi()
     }
 
-    /// Gives the width of the zones, 1..=524,288.
+    /// Returns the zone width, 1..=524,288.
     pub fn width(&self) -> u32
         ensures { result ≡ self.now.part.width }
     {
         self.part.width()
     }
 
-    /// Gives what is pending of a cell below `CELLS`: its count.
+    /// Returns what is pending of a cell below `CELLS`: its count.
     pub fn pending(&self, cell: u8) -> i64
         requires { cell < CELLS }
         ensures { result ≡ delta_at self.now.pending cell }
@@ -105,7 +105,7 @@ impl Piece {
         self.part.recount()
     }
 
-    /// Finds the first Subscriber row of the piece from a subscriber on.
+    /// Finds the first Subscriber row of the piece whose s_id is this one or higher.
     pub fn first_sub_from(&self, s_id: u64) -> Option<&Subscriber>
         ensures { option_copied result ≡ first_subscriber s_id self.now.part.book.subscribers }
     {
