@@ -52,11 +52,11 @@ pub enum Task {
     },
     /// UPDATE_SUBSCRIBER_DATA (TATP, section 3.4): sets bit_1 of the subscriber and data_a of the facility, or neither.
     UpdateSubscriber(UpdateSubscriber),
-    /// The body of UPDATE_LOCATION (TATP, section 3.5): sets vlr_location.
+    /// UPDATE_LOCATION (TATP, section 3.5) by s_id: sets vlr_location.
     UpdateLocation(UpdateLocation),
-    /// The body of INSERT_CALL_FORWARDING (TATP, section 3.6): adds a Call_Forwarding row.
+    /// INSERT_CALL_FORWARDING (TATP, section 3.6) by s_id: adds a Call_Forwarding row.
     InsertForwarding(InsertForwarding),
-    /// The body of DELETE_CALL_FORWARDING (TATP, section 3.7): removes a Call_Forwarding row.
+    /// DELETE_CALL_FORWARDING (TATP, section 3.7) by s_id: removes a Call_Forwarding row.
     DeleteForwarding(DeleteForwarding),
     /// Adds an Access_Info row.
     AddAccess(AddAccess),

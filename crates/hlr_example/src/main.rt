@@ -22,7 +22,7 @@ const HIGH: u32 = 70;
 /// A location in area 1.
 const LOCATION: u32 = 268_435_456;
 
-/// A subscriber in area 0, whose number is its s_id.
+/// Returns a subscriber in area 0, whose number is its s_id.
 fn subscriber(s_id: u32) -> Result<Subscriber, Refusal> {
     let s_id = u64::from(s_id);
     Subscriber::try_new(
@@ -36,7 +36,7 @@ fn subscriber(s_id: u32) -> Result<Subscriber, Refusal> {
     )
 }
 
-/// A register of two parts over zones of four subscribers, with one in each part.
+/// Returns a register of two parts over zones of four subscribers, with one in each part.
 fn opened(alloc: Global) -> Result<Register, Refusal>
     ensures { IfOk result (λ register. AllHome register.owners) }
 {
@@ -49,7 +49,8 @@ fn opened(alloc: Global) -> Result<Register, Refusal>
 /// An owner that worked, and how many cells it posted.
 type Worked = (Box<Holding>, Result<u8, Refusal>);
 
-/// What an owner does in its thread: it moves a subscriber of its own to area 1, and posts what it has not posted yet.
+/// Returns what an owner does in its thread: it moves a subscriber of its own to area 1, and posts what it has not
+/// posted yet.
 fn work(board: &Board, mut holding: Box<Holding>, s_id: u32) -> Worked
     requires { holding.value.desk.board ≡ board.now }
     ensures board { result.0.value.desk.board ≡ holding.value.desk.board }

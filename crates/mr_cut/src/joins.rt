@@ -12,7 +12,7 @@ ghost use Rattle.mr_cut.specs.Joins.{FitUnderRoot, IsRootOf, IsRootCount, IsHeig
 use crate::side_joins::{Side, join_side, turned};
 use mr_node::{Meter, Node, Stock, build_inner, empty_inner, insert_child};
 
-/// The root of what is one node, or two under a new one. One step where there are two.
+/// Returns the root of what is one node, or two under a new one. One step where there are two.
 #[inline(never)]
 fn root_of_both<V: Drop + Default>(
     one: Box<Node<V>>,

@@ -28,7 +28,8 @@ pub fn need_meld(low: u64, high: u64) -> usize
     low.abs_diff(high) as usize + 3
 }
 
-/// Takes the blank nodes for a slice of a tree of this height (`need_slice`). `Memory` where they can't be had.
+/// Takes the blank nodes for a slice of a tree of this height (`need_slice`). It returns `Memory` if the system refuses
+/// memory for them.
 pub fn stock_for_slice<V: Drop + Default>(alloc: Global, height: u64) -> Result<Stock<V>, Refusal>
     requires { height < 16 }
     ensures { MatchResult result (λ stock. stock ≡ blanks_for_slice height) (λ why. why ≡ Refusal.Memory) }
@@ -36,7 +37,8 @@ pub fn stock_for_slice<V: Drop + Default>(alloc: Global, height: u64) -> Result<
     Stock::take(alloc, need_slice(height))
 }
 
-/// Takes the blank nodes for a meld of trees of these heights (`need_meld`). `Memory` where they can't be had.
+/// Takes the blank nodes for a meld of trees of these heights (`need_meld`). It returns `Memory` if the system refuses
+/// memory for them.
 pub fn stock_for_meld<V: Drop + Default>(
     alloc: Global,
     low: u64,

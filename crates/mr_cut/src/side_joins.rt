@@ -22,7 +22,7 @@ pub(crate) enum Side {
     High,
 }
 
-/// The place at a side, where that of the high side is `last`.
+/// Returns the place at a side, where that of the high side is `last`.
 fn end_of(side: Side, last: usize) -> usize
     ensures { result ≡ end_of side last }
 {
@@ -80,7 +80,7 @@ fn built<V: Drop>(
     build_inner(inner, blank, meter)
 }
 
-/// An inner node of one child. One step.
+/// Returns an inner node of one child. One step.
 #[inline(never)]
 fn lone<V: Drop>(
     height: u64,

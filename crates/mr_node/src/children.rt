@@ -59,7 +59,7 @@ fn child_place_far<B>(inner: &Inner<B>, key: u64) -> usize
     child_place(inner, key)
 }
 
-/// The place of the child to which a key belongs, looked for at a guess of it first where `GUESSED`.
+/// Returns the place of the child to which a key belongs, looked for at a guess of it first where `GUESSED`.
 #[inline(always)]
 pub(crate) fn child_place_at<B, const GUESSED: bool>(
     inner: &Inner<B>,
@@ -81,7 +81,7 @@ pub(crate) fn child_place_at<B, const GUESSED: bool>(
     child_place_far(inner, key)
 }
 
-/// The count of the child at a place, or 0 where there is none.
+/// Returns the count of the child at a place, or 0 if there is none.
 fn count_at<B>(inner: &Inner<B>, place: usize) -> u64
     requires { place < 32 }
     ensures { IfSome (slice_index_or inner.now.children place None) (λ k. result ≡ k.count) }
@@ -92,7 +92,7 @@ fn count_at<B>(inner: &Inner<B>, place: usize) -> u64
     }
 }
 
-/// The sum of the children's counts.
+/// Returns the sum of the children's counts.
 pub(crate) fn sum_counts<B>(inner: &Inner<B>) -> u64
     requires entries { AreEntries inner.now.len inner.now.leasts inner.now.children }
     requires fits { sum_by (λ k. k.1.count) (entries inner.now.leasts inner.now.children) < 18446744073709551616 }

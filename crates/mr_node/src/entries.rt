@@ -14,7 +14,7 @@ use crate::keys::{NO_KEY, count_below, is_at, put_key, take_key};
 use crate::{Leaf, Revise, Room};
 use arrayvec::ArrayVec;
 
-/// A leaf without entries.
+/// Returns a leaf without entries.
 pub(crate) fn empty_leaf<V: Default>() -> Leaf<V>
     ensures leaf { IsLeaf result }
     ensures none { result.values.items ≡ [] }
@@ -25,7 +25,7 @@ pub(crate) fn empty_leaf<V: Default>() -> Leaf<V>
     }
 }
 
-/// The place of a key in a leaf; where it isn't there, that at which it would stand.
+/// Returns the place of a key in a leaf; where it isn't there, that at which it would stand.
 fn search<V>(leaf: &Leaf<V>, key: u64) -> Result<usize, usize>
     requires { IsLeaf leaf.now }
     ensures { MatchResult result (λ place. IsThere key place leaf.now) (λ place. IsFree key place leaf.now) }
@@ -37,7 +37,7 @@ fn search<V>(leaf: &Leaf<V>, key: u64) -> Result<usize, usize>
     Err(place)
 }
 
-/// The value at a key of a leaf.
+/// Returns the value at a key of a leaf.
 fn find_entry<V>(leaf: &Leaf<V>, key: u64) -> Option<&V>
     requires { IsLeaf leaf.now }
     ensures { option_map (λ r. r.now) result ≡ value_at key (pairs_of leaf.now) }
@@ -57,7 +57,7 @@ fn find_far<V>(leaf: &Leaf<V>, key: u64) -> Option<&V>
     find_entry(leaf, key)
 }
 
-/// The value at a key of a leaf, looked for at a guess of its place first where `GUESSED`.
+/// Returns the value at a key of a leaf, looked for at a guess of its place first where `GUESSED`.
 #[inline(always)]
 pub(crate) fn find_entry_at<V, const GUESSED: bool>(
     leaf: &Leaf<V>,
@@ -233,7 +233,7 @@ pub(crate) fn remove_entry<V: Drop + Default>(leaf: &mut Leaf<V>, key: u64) -> O
     }
 }
 
-/// The first row of a leaf from a key on.
+/// Returns the first row of a leaf from a key on.
 pub(crate) fn first_entry<V>(leaf: &Leaf<V>, key: u64) -> Option<(u64, &V)>
     requires { IsLeaf leaf.now }
     ensures { option_map (λ r. (r.0, r.1.now)) result ≡ find (λ p. nat_le key p.0) (pairs_of leaf.now) }
@@ -245,7 +245,7 @@ pub(crate) fn first_entry<V>(leaf: &Leaf<V>, key: u64) -> Option<(u64, &V)>
     Some((leaf.keys[place], &leaf.values.as_slice()[place]))
 }
 
-/// The fold over the rows of a leaf.
+/// Returns the fold over the rows of a leaf.
 pub(crate) fn fold_entries<V, A, F: Fn(A, u64, &V) -> A>(leaf: &Leaf<V>, init: A, f: &F) -> A
     requires callable { F.IsAlwaysCallable f.now }
     requires leaf { IsLeaf leaf.now }

@@ -21,7 +21,7 @@ pub(crate) trait EntryList {
 
     ghost height: { Self → ℕ };
 
-    /// The number of entries.
+    /// Returns the number of entries.
     fn width(&self) -> usize
         requires { is_entry_list self.now }
         ensures { result ≡ length (list self.now) };
@@ -208,7 +208,7 @@ pub(crate) fn share<R: EntryList>(left: &mut R, right: &mut R, low: usize)
     right.turn();
 }
 
-/// How many of so many entries the left one of two neighbours gets: all where they fit, else half of them.
+/// Returns how many of so many entries the left one of two neighbours gets: all where they fit, else half of them.
 pub(crate) fn low_of(both: usize) -> usize
     requires { both ≤ 64 }
     ensures share { IsShare both result }

@@ -19,7 +19,7 @@ static RATES: [u64; 8] = [
     (1 << 40) / (FILLED * FILLED * FILLED * FILLED * FILLED * FILLED * FILLED) + 1,
 ];
 
-/// How many rows of a node stand in front of a key, counted from its least key.
+/// Returns how many rows of a node stand in front of a key, counted from its least key.
 #[inline(always)]
 pub(crate) fn rows_before(key: u64, least: u64, shift: u32) -> u64
     ensures { shift < 64 → (n : ℕ) → key ≡ least + n * 2 ^ shift → result ≡ n }
@@ -27,7 +27,7 @@ pub(crate) fn rows_before(key: u64, least: u64, shift: u32) -> u64
     key.wrapping_sub(least).wrapping_shr(shift)
 }
 
-/// The place of the child of a node that has the row behind so many. Above height 3 it may be off by one.
+/// Returns the place of the child of a node that has the row behind so many. Above height 3 it may be off by one.
 #[inline(always)]
 pub(crate) fn child_behind(rows: u64, height: u64) -> usize
     ensures low { height ≡ 1 → rows < 29 ^ 2 → result ≡ rows / 29 }

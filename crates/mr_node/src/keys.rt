@@ -16,7 +16,7 @@ fn is_less(keys: &[u64; 32], place: usize, key: u64) -> usize
     usize::from(keys[place] < key)
 }
 
-/// How many of the seven keys that stand four places apart are less than a key.
+/// Returns how many of the seven keys that stand four places apart are less than a key.
 fn fours_below(keys: &[u64; 32], key: u64) -> usize
     requires { IsRising keys.now }
     ensures within { result < 8 }
@@ -32,7 +32,7 @@ fn fours_below(keys: &[u64; 32], key: u64) -> usize
         + is_less(keys, 27, key)
 }
 
-/// How many of the keys are less than a key: eleven looks that are added up, with no branch on a key.
+/// Returns how many of the keys are less than a key: eleven looks that are added up, with no branch on a key.
 pub(crate) fn count_below(keys: &[u64; 32], key: u64) -> usize
     requires { IsRising keys.now }
     ensures { IsStop key result keys.now }
@@ -44,7 +44,7 @@ pub(crate) fn count_below(keys: &[u64; 32], key: u64) -> usize
         + is_less(keys, low + 3, key)
 }
 
-/// Whether a key stands at a place: what stands behind the last key is no key.
+/// Returns whether a key stands at a place: what stands behind the last key is no key.
 #[inline(always)]
 pub(crate) fn is_at(keys: &[u64; 32], place: usize, key: u64) -> bool
     ensures there { result ≡ true → (place < 32) × (slice_index_or keys.now place 0 ≡ key) × (key < no_key) }
@@ -53,7 +53,7 @@ pub(crate) fn is_at(keys: &[u64; 32], place: usize, key: u64) -> bool
     place < 32 && keys[place] == key && key != NO_KEY
 }
 
-/// Whether a key is at least the one at a place, and less than the next one. Of the last place it is false.
+/// Returns whether a key is at least the one at a place, and less than the next one. Of the last place it is false.
 #[inline(always)]
 pub(crate) fn is_between(keys: &[u64; 32], place: usize, key: u64) -> bool
     ensures { result ≡ true → (place < 31) × (slice_index_or keys.now place 0 ≤ key) × (key < slice_index_or keys.now (place + 1) 0) }

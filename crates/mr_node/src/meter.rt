@@ -26,7 +26,7 @@ impl Meter {
         Meter { steps: 0 }
     }
 
-    /// Gives the steps counted.
+    /// Returns the steps counted.
     pub fn steps(&self) -> u64
         ensures { result ≡ self.now }
     {

@@ -68,7 +68,7 @@ impl<V: Default> Node<V> {
 }
 
 impl<V> Node<V> {
-    /// Tells how far the node is above the leaves: 0 for a leaf.
+    /// Returns how far the node is above the leaves: 0 for a leaf.
     pub fn height(&self) -> u64
         ensures value { result ≡ self.now.height }
         ensures well { IsWell self.now }
@@ -90,7 +90,7 @@ impl<V> Node<V> {
         }
     }
 
-    /// Gives the number of rows in and below the node.
+    /// Returns the number of rows in and below the node.
     pub fn len(&self) -> u64
         ensures { result ≡ length self.now.rows }
     {
@@ -100,7 +100,7 @@ impl<V> Node<V> {
         }
     }
 
-    /// The least key of a node that has any row.
+    /// Returns the least key of a node that has any row.
     pub(crate) fn least(&self) -> u64
         ensures { 0 < self.now.width → StartsWith result self.now.rows }
     {
@@ -125,8 +125,8 @@ impl<V> Node<V> {
         self.find_row::<true>(key, shift, self.least())
     }
 
-    /// The value at a key. Where `GUESSED`, it looks first where a dense tree would have the key; `least` is the node's
-    /// least key, or any number. Else `shift` and `least` are of no matter.
+    /// Returns the value at a key. Where `GUESSED`, it looks first where a dense tree would have the key; `least` is
+    /// the node's least key, or any number. Else `shift` and `least` are of no matter.
     fn find_row<const GUESSED: bool>(&self, key: u64, shift: u32, least: u64) -> Option<&V>
         ensures { option_map (λ r. r.now) result ≡ value_at key self.now.rows }
     {
@@ -231,7 +231,7 @@ impl<V> Node<V> {
         }
     }
 
-    /// The parts of a node.
+    /// Returns the parts of a node.
     fn into_body(self) -> Body<V, Box<Node<V>>>
         ensures seen { seen result ≡ self }
         ensures whole { IsNode result }
@@ -558,7 +558,7 @@ fn note_gone<V>(child: &mut Child<Box<Node<V>>>, is_gone: bool) -> u64
     child.node.least()
 }
 
-/// The least key of a child after an insertion below it, which put a row in or not.
+/// Returns the least key of a child after an insertion below it, which put a row in or not.
 fn least_after(least: u64, key: u64, is_in: bool) -> u64
     ensures { result ≡ (if is_in then min least key else least) }
 {
@@ -625,7 +625,7 @@ pub fn insert_child<V: Drop>(inner: &mut Inner<Box<Node<V>>>, place: usize, node
     put_child(inner, place, least, Child { count, node });
 }
 
-/// A new root over the halves of a full node.
+/// Returns a new root over the halves of a full node.
 fn root_over<V: Drop + Default>(
     mut node: Box<Node<V>>,
     mut blank: Box<Node<V>>,
@@ -660,7 +660,7 @@ fn drop_root<V: Drop + Default>(root: &mut Node<V>, meter: &mut Meter)
     *root = only_child(node, meter);
 }
 
-/// The only child of an inner node.
+/// Returns the only child of an inner node.
 fn only_child<V: Drop + Default>(node: Node<V>, meter: &mut Meter) -> Node<V>
     requires above_leaves { 0 < node.height }
     requires one { node.width ≡ 1 }

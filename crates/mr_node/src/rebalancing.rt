@@ -14,7 +14,7 @@ const GIVEN_FROM: usize = 24;
 /// until it has so many: room is left in both, and rows that come in rising order leave nearly full nodes behind.
 pub(crate) const GIVEN_TO: usize = 29;
 
-/// The width of the child at a place.
+/// Returns the width of the child at a place.
 fn child_width<V>(children: &[Option<Child<Box<Node<V>>>>; 32], place: usize) -> usize
     requires { place < 32 }
     ensures { IfSome (slice_index_or children.now place None) (λ k. result ≡ k.node.value.width) }
@@ -33,7 +33,7 @@ fn count_anew<V>(child: &mut Child<Box<Node<V>>>)
     child.count = child.node.len();
 }
 
-/// The width of the child at `place` and of the next one together.
+/// Returns the width of the child at `place` and of the next one together.
 fn pair_width<V>(inner: &Inner<Box<Node<V>>>, place: usize) -> usize
     requires loose { IsInnerOf 15 inner.now }
     requires within { place + 1 < inner.now.len }
@@ -86,8 +86,8 @@ fn join_pair<V: Drop + Default>(inner: &mut Inner<Box<Node<V>>>, place: usize, m
     }
 }
 
-/// The first of the two neighbours that share anew where the child at `place` is thin: it and the one before it where
-/// both fit one node, or where it is the last; else it and the next one.
+/// Returns the first of the two neighbours that share anew where the child at `place` is thin: it and the one before it
+/// where both fit one node, or where it is the last; else it and the next one.
 fn pair_of<V>(inner: &Inner<Box<Node<V>>>, place: usize) -> usize
     requires loose { IsInnerOf 15 inner.now }
     requires two { 2 ≤ inner.now.len }

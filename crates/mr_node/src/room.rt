@@ -15,7 +15,7 @@ pub enum Room {
 }
 
 impl Room {
-    /// Whether the row went in.
+    /// Returns whether the row went in.
     pub(crate) fn is_done(&self) -> bool
         ensures { result ≡ is_done self.now }
     {

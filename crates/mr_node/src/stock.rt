@@ -33,14 +33,14 @@ impl<N> Blanks<N> {
         }
     }
 
-    /// Gives the allocator of which blank nodes are taken.
+    /// Returns the allocator of which blank nodes are taken.
     pub fn alloc(&self) -> Global {
         *self.boxes.allocator()
     }
 }
 
 impl<V: Drop + Default> Blanks<Node<V>> {
-    /// Takes `count` blank nodes. `Memory` where they can't be had: then none is kept.
+    /// Takes `count` blank nodes. It returns `Memory` if the system refuses memory for them, and then none is kept.
     pub fn take(alloc: Global, count: usize) -> Result<Stock<V>, Refusal>
         ensures { MatchResult result (λ stock. stock ≡ count) (λ why. why ≡ Refusal.Memory) }
     {
@@ -49,7 +49,8 @@ impl<V: Drop + Default> Blanks<Node<V>> {
         Ok(stock)
     }
 
-    /// Takes blank nodes until there are `count`. `Memory` where they can't be had: those that were taken stay.
+    /// Takes blank nodes until there are `count`. It returns `Memory` if the system refuses memory for them: those that
+    /// were taken stay.
     pub fn fill(&mut self, count: usize) -> Result<(), Refusal>
         ensures filled { MatchResult result (λ _. self.new ≡ max self.old count) (λ why. why ≡ Refusal.Memory) }
         ensures short { OnErr result ((self.old ≤ self.new) × (self.new < count)) }

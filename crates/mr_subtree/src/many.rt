@@ -8,7 +8,7 @@ use crate::subtree::SubTree;
 use arrayvec::ArrayVec;
 use mr_node::Node;
 
-/// The next nodes of descents to keys: of each node the child to which its key belongs.
+/// Returns the next nodes of descents to keys: of each node the child to which its key belongs.
 #[inline]
 fn next_nodes<'a, V>(mut nodes: [&'a Node<V>; 16], keys: &[u64]) -> [&'a Node<V>; 16]
     requires { length keys.now ≤ 16 }
@@ -20,7 +20,7 @@ fn next_nodes<'a, V>(mut nodes: [&'a Node<V>; 16], keys: &[u64]) -> [&'a Node<V>
     nodes
 }
 
-/// The leaves to which keys belong, each beside its key.
+/// Returns the leaves to which keys belong, each beside its key.
 #[inline]
 fn leaves<'a, V>(root: &'a Node<V>, keys: &[u64]) -> [&'a Node<V>; 16]
     requires { length keys.now ≤ 16 }
@@ -34,8 +34,9 @@ fn leaves<'a, V>(root: &'a Node<V>, keys: &[u64]) -> [&'a Node<V>; 16]
 }
 
 impl<V: Copy> SubTree<V> {
-    /// Puts the values at up to 16 keys into an empty list, one for each key in the order of the keys, `None` where the
-    /// key isn't there. The keys are looked for side by side, so that their waits for memory overlap.
+    /// Puts the values at up to 16 keys into an empty list, one for each key in the order of the keys, `None` if the
+    /// key isn't there. The keys are looked up with overlapping memory accesses, so that their waits for memory
+    /// overlap.
     pub fn copy_many(&self, keys: &[u64], found: &mut ArrayVec<Option<V>, 16>)
         requires few { length keys.now ≤ 16 }
         requires empty { found.old.items ≡ [] }

@@ -62,14 +62,14 @@ impl<V> SubTree<V> {
         }
     }
 
-    /// The root, to be looked at.
+    /// Returns the root, to be looked at.
     pub(crate) fn root(&self) -> &Node<V>
         ensures { result.now ≡ self.now }
     {
         &self.root
     }
 
-    /// Gives the allocator of which the tree takes memory.
+    /// Returns the allocator of which the tree takes memory.
     pub fn alloc(&self) -> Global {
         self.spare.alloc()
     }
@@ -89,14 +89,14 @@ impl<V> SubTree<V> {
         self.root.find_by_guess(key, shift)
     }
 
-    /// Gives the number of rows.
+    /// Returns the number of rows.
     pub fn len(&self) -> u64
         ensures { result ≡ length self.now.rows }
     {
         self.root.len()
     }
 
-    /// Gives the height: 0 for a root that is a leaf. A tree of height h of at least 1 has 2 * 16^h to 32^(h+1) rows.
+    /// Returns the height: 0 for a root that is a leaf. A tree of height h of at least 1 has 2 * 16^h to 32^(h+1) rows.
     pub fn height(&self) -> u64
         ensures value { result ≡ self.now.height }
         ensures bounds { IsHeightOf result (length self.now.rows) }
@@ -140,7 +140,7 @@ impl<V: Copy> SubTree<V> {
 }
 
 impl<V: Drop> SubTree<V> {
-    /// Gives the root, which meets the rules. Blank nodes that the tree kept are let go.
+    /// Returns the root, which meets the rules. Blank nodes that the tree kept are let go.
     pub fn into_root(self) -> Node<V>
         ensures same { result ≡ self }
         ensures root { IsRoot result }
@@ -189,9 +189,9 @@ impl<V: Drop + Default> SubTree<V> {
         gone
     }
 
-    /// Puts a row in. `Exists` where a row with the key is there, `Memory` where the blank nodes for it can't be had:
-    /// then the tree is as it was, and the value is handed back. A tree of fewer than 32 rows never wants blank nodes,
-    /// since it stays as high as it is. The key has to be below 18446744073709551614.
+    /// Puts a row in. Its refusals, in order, are `Exists` if a row with the key is there, and `Memory` if the blank
+    /// nodes for it can't be had: then the tree is as it was, and the value is handed back. A tree of fewer than 32
+    /// rows never wants blank nodes, since it stays as high as it is. The key has to be below 18446744073709551614.
     pub fn insert(&mut self, key: u64, value: V) -> Result<(), Back<V>>
         requires { key < key_limit }
         ensures answer { IsInserted key value self.old.rows self.new.rows result }
@@ -226,7 +226,7 @@ impl<V: Drop + Default> SubTree<V> {
     }
 }
 
-/// How many blank nodes a row takes at most whose leaf is full: one a level, and three more under a full root.
+/// Returns how many blank nodes a row takes at most whose leaf is full: one a level, and three more under a full root.
 fn blanks_wanted<V>(root: &Node<V>) -> usize
     requires { IsRoot root.now }
     ensures each { root.now.height ≤ result }
@@ -260,7 +260,7 @@ fn grow<V: Drop + Default>(root: &mut Node<V>, key: u64, item: &mut Option<V>, s
     root.insert_split(key, item, stock, &mut meter);
 }
 
-/// The answer that a row was refused, with its value.
+/// Returns the answer that a row was refused, with its value.
 fn refused<V>(why: Refusal, item: Option<V>) -> Result<(), Back<V>>
     requires { IsSome item }
     ensures { IfSome item (λ value. result ≡ Err (record { why = why; item = value })) }

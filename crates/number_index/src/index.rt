@@ -76,8 +76,8 @@ impl NumberIndex {
         self.tree.page_from(number, page);
     }
 
-    /// Adds a pair. `NumberTaken` where a subscriber has the number, `Memory` where the index can't grow: then it is as
-    /// before.
+    /// Adds a pair. Its refusals, in order, are `NumberTaken` if a subscriber has the number, and `Memory` if the index
+    /// can\'t grow, and then it is as before.
     pub fn add(&mut self, number: Number, s_id: u32) -> Result<(), Refusal>
         ensures added { IsAdded number s_id self.old self.new result }
         ensures memory { IfErr result (λ why. why ≡ Refusal.Memory → 32 ≤ length self.old) }
@@ -99,9 +99,9 @@ impl NumberIndex {
         self.tree.remove(number.value())
     }
 
-    /// Gives the subscriber who has a number another one; nothing changes where the two are equal. `NoNumber` where no
-    /// subscriber has the number, `NumberTaken` where one has the other, `Memory` where the index can't grow: then it
-    /// is as before, for the new pair goes in before the old one goes.
+    /// Returns the subscriber who has a number another one; nothing changes where the two are equal. Its refusals, in
+    /// order, are `NoNumber` if no subscriber has the number, `NumberTaken` if one has the other, and `Memory` if the
+    /// index can\'t grow, and then it is as before, for the new pair goes in before the old one goes.
     pub fn rename(&mut self, from: Number, to: Number) -> Result<(), Refusal>
         ensures renamed { IsRenamed from to self.old self.new result (bearer_in from self.old) }
         ensures memory { IfErr result (λ why. why ≡ Refusal.Memory → 32 ≤ length self.old) }
@@ -118,7 +118,7 @@ impl NumberIndex {
     }
 }
 
-/// A value that is a number, as one.
+/// Returns a value that is a number, as one.
 fn as_number(value: u64) -> Number
     requires { IsNumber value }
     ensures { result ≡ value }

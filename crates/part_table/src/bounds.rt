@@ -36,7 +36,7 @@ impl Model for Bounds {
 }
 
 impl Bounds {
-    /// Gives the bounds in order, as a re-cut takes them.
+    /// Returns the bounds in order, as a recut takes them.
     pub fn list(&self) -> &[u64]
         ensures value { result.now ≡ self.now }
         ensures rising { are_rising 1 result.now ≡ true }
@@ -46,7 +46,7 @@ impl Bounds {
     }
 }
 
-/// Whether bounds rise strictly in 2..=16,777,216.
+/// Returns whether bounds rise strictly in 2..=16,777,216.
 pub(crate) fn are_rising(bounds: &[u64]) -> bool
     ensures { result ≡ are_rising 1 bounds.now }
 {
@@ -60,7 +60,7 @@ pub(crate) fn are_rising(bounds: &[u64]) -> bool
     true
 }
 
-/// The weight of all zones.
+/// Returns the weight of all zones.
 fn total(weights: &[u64; 32]) -> u64
     requires { sum weights.now ≤ 32 * GREATEST_WEIGHT }
     ensures { result ≡ sum weights.now }
@@ -68,7 +68,7 @@ fn total(weights: &[u64; 32]) -> u64
     weights.iter().sum()
 }
 
-/// The least zone, 0..=32, below which at least so many of the parts' equal shares of all weight lie.
+/// Returns the least zone, 0..=32, below which at least so many of the parts' equal shares of all weight lie.
 fn share_zone(weights: &[u64; 32], parts: u8, shares: u8) -> u8
     requires weights { sum weights.now ≤ 32 * GREATEST_WEIGHT }
     requires parts { parts ≤ MOST_PARTS }
@@ -89,7 +89,7 @@ fn share_zone(weights: &[u64; 32], parts: u8, shares: u8) -> u8
 impl Regions {
     /// Proposes bounds that give each part about its share of the rows: each lies in front of the least zone below
     /// which the equal shares of the parts in front of it lie whole, but no zone twice, and one zone at least for each
-    /// part. A zone has a weight of at most 352,321,536. Parts has to be 1..=16, and the zones' width 1..=524,288.
+    /// part. A zone has a weight of at most 352,321,536. Parts has to be 1..=16, and the zone width 1..=524,288.
     pub fn propose(weights: &[u64; 32], parts: u8, width: u32) -> Bounds
         requires weights { All (λ w. w ≤ GREATEST_WEIGHT) weights.now }
         requires some_part { 1 ≤ parts }

@@ -6,7 +6,7 @@ ghost use Rattle.part_table.specs.Give.{given, halves};
 use crate::region::{Place, Region, Side};
 use arrayvec::ArrayVec;
 
-/// Where the stretch begins and ends that a part gives away: below `at`, or from it on.
+/// Returns where the stretch begins and ends that a part gives away: below `at`, or from it on.
 pub(crate) fn given(part: Region, side: Side, at: u32) -> (u32, u32)
     ensures { result ≡ given side at part }
 {
@@ -16,7 +16,7 @@ pub(crate) fn given(part: Region, side: Side, at: u32) -> (u32, u32)
     }
 }
 
-/// A part's region cut in two, of which the half on one side is the loose piece `n`.
+/// Returns a part's region cut in two, of which the half on one side is the loose piece `n`.
 pub(crate) fn halves(part: Region, n: u8, side: Side, at: u32) -> (Region, Region)
     ensures { result.0 ∷ result.1 ∷ [] ≡ halves n side at part }
 {

@@ -7,28 +7,28 @@ ghost use Rattle.part_table.specs.Regions.{AreRegions, pieces_of};
 
 use crate::region::{MOST_PIECES, Region};
 
-/// How many regions are of parts.
+/// Returns how many regions are of parts.
 pub(crate) fn count_parts(regions: &[Region]) -> usize
     ensures { result ≡ count_by is_of_part regions.now }
 {
     regions.iter().filter(|region| region.is_of_part()).count()
 }
 
-/// Where the first region stands that ends behind an s_id, if there is one.
+/// Returns where the first region stands that ends behind an s_id, if there is one.
 pub(crate) fn end_behind(regions: &[Region], s_id: u32) -> Option<usize>
     ensures { result ≡ position (ends_behind s_id) regions.now }
 {
     regions.iter().position(|region| s_id < region.hi)
 }
 
-/// Where the region of the part `p` stands among some of the regions, if it is there.
+/// Returns where the region of the part `p` stands among some of the regions, if it is there.
 fn part_among(regions: &[Region], p: u64) -> Option<usize>
     ensures { result ≡ position (is_part p) regions.now }
 {
     regions.iter().position(|region| region.is_part(p))
 }
 
-/// Where the region of the part `p` stands, if it is there: behind those of the parts before it.
+/// Returns where the region of the part `p` stands, if it is there: behind those of the parts before it.
 pub(crate) fn part_at(regions: &[Region], p: u64) -> Option<usize>
     requires { AreRegions regions.now }
     ensures { result ≡ position (is_part p) regions.now }
@@ -38,21 +38,21 @@ pub(crate) fn part_at(regions: &[Region], p: u64) -> Option<usize>
     Some(before + i)
 }
 
-/// Where the region of the loose piece `n` stands, if it is there.
+/// Returns where the region of the loose piece `n` stands, if it is there.
 pub(crate) fn piece_at(regions: &[Region], n: u64) -> Option<usize>
     ensures { result ≡ position (is_piece n) regions.now }
 {
     regions.iter().position(|region| region.is_piece(n))
 }
 
-/// Whether a loose piece has this number.
+/// Returns whether a loose piece has this number.
 pub(crate) fn has_piece(regions: &[Region], n: u64) -> bool
     ensures { result ≡ list_any (is_piece n) regions.now }
 {
     regions.iter().any(|region| region.is_piece(n))
 }
 
-/// The least number of 1..=16 that no loose piece has, or `None` where sixteen are loose.
+/// Returns the least number of 1..=16 that no loose piece has, or `None` if sixteen are loose.
 pub(crate) fn free_number(regions: &[Region]) -> Option<u8>
     requires { AreRegions regions.now }
     ensures { MatchOption result (length (pieces_of regions.now) ≡ MOST_PIECES) (IsFreeNumber (pieces_of regions.now)) }

@@ -1,4 +1,4 @@
-//! Who has which s_ids: the regions of parts and loose pieces, how gives, takes, divides, dissolves and re-cuts change
+//! Who has which s_ids: the regions of parts and loose pieces, how gives, takes, divides, dissolves and recuts change
 //! them, and which bounds would give each part about its share of the rows. A call looks at up to 32 regions or weights
 //! and takes no memory. A list of regions knows no rows: whoever changes it has to move them too.
 #![tactic(auto)]

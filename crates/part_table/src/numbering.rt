@@ -17,7 +17,7 @@ pub(crate) struct Next {
 }
 
 impl Next {
-    /// The next place of a kind.
+    /// Returns the next place of a kind.
     pub(crate) fn place(&mut self, kind: Place) -> Place
         requires part { self.old.part < 255 }
         requires piece { self.old.piece < 255 }
@@ -38,7 +38,7 @@ impl Next {
     }
 }
 
-/// The place with a number that is one more, where it is a part's.
+/// Returns the place with a number that is one more, where it is a part's.
 pub(crate) fn raised(place: Place) -> Place
     requires { AllByRecursion (λ p. p < 255) (part_number place) }
     ensures { result ≡ place_raised place }
@@ -49,7 +49,7 @@ pub(crate) fn raised(place: Place) -> Place
     }
 }
 
-/// The place with a number that is one less, where it is a part's.
+/// Returns the place with a number that is one less, where it is a part's.
 fn lowered(place: Place) -> Place
     requires { AllByRecursion (λ p. 1 ≤ p) (part_number place) }
     ensures { result ≡ place_lowered place }

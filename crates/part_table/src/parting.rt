@@ -41,9 +41,9 @@ impl Regions {
     }
 
     /// Divides the part `p` at a subscriber: it keeps what is below, a new part with the next number has the rest, and
-    /// later parts' numbers rise by one. The answer is the new part's number, and where it begins and ends. `NoPart`,
-    /// then `OutOfRange` where `at` isn't strictly inside the part, then `ManyParts` where sixteen parts are there. A
-    /// refusal changes nothing.
+    /// later parts' numbers rise by one. The answer is the new part's number, and where it begins and ends. Its
+    /// refusals, in order, are `NoPart`, `OutOfRange` if `at` isn't strictly inside the part, and `ManyParts` if
+    /// sixteen parts are there. A refusal changes nothing.
     pub fn divide(&mut self, p: u64, at: u64) -> Result<(u8, u32, u32), Refusal>
         ensures answer { result ≡ divide_answer p at self.old }
         ensures after { self.new ≡ after_divide p at result self.old }
@@ -86,8 +86,8 @@ impl Regions {
     }
 
     /// Dissolves the part `p`: the part in front of it has its range too, and later parts' numbers fall by one. The
-    /// answer is the number of the part in front, and where it begins and ends now. `NoPart`, then `NotAdjacent` where
-    /// `p` is the first part or a loose piece lies between. A refusal changes nothing.
+    /// answer is the number of the part in front, and where it begins and ends now. Its refusals, in order, are
+    /// `NoPart` and `NotAdjacent` if `p` is the first part or a loose piece lies between. A refusal changes nothing.
     pub fn dissolve(&mut self, p: u64) -> Result<(u8, u32, u32), Refusal>
         ensures answer { result ≡ dissolve_answer p self.old }
         ensures after { self.new ≡ after_dissolve p result self.old }
@@ -98,8 +98,8 @@ impl Regions {
     }
 }
 
-/// What a part with this region and this number answers to a divide: the new part's number, and where it begins and
-/// ends.
+/// Returns what a part with this region and this number answers to a divide: the new part's number, and where it begins
+/// and ends.
 fn divide_answer_of(
     regions: &[Region],
     part: Region,
@@ -118,7 +118,7 @@ fn divide_answer_of(
     Ok((p as u8 + 1, at as u32, part.hi))
 }
 
-/// A part's region cut in two, of which the second is the next part's.
+/// Returns a part's region cut in two, of which the second is the next part's.
 fn divided(part: Region, at: u32) -> (Region, Region)
     requires { AllByRecursion (λ p. p < 255) (part_number part.place) }
     ensures low { result.0 ≡ record part { hi = at } }

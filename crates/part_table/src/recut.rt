@@ -1,4 +1,4 @@
-//! Which bounds a re-cut moves, and in which order.
+//! Which bounds a recut moves, and in which order.
 ghost use Rattle.std.specs.Prelude.{◌≡◌, ◌+◌, ◌-◌, ◌<◌, ◌≤◌, [], ◌∷◌, ◌++◌, true, Ok, Err, length, IfOk, MatchResult};
 ghost use Rattle.arrayvec.specs.ArrayVec.{array_vec_len};
 ghost use Rattle.part_table.specs.Bounds.{are_rising, parts_between};
@@ -14,9 +14,9 @@ use tatp_rows::Refusal;
 
 impl Regions {
     /// Lists the moves that bring the parts to other bounds: those of the bounds that rise, from the last down, and
-    /// then those of the bounds that fall, from the first up, so that each can be done when it comes. `Field` where the
-    /// bounds aren't strictly rising ones in 2..=16,777,216, one less than there are parts; then `Moving` where a piece
-    /// is loose.
+    /// then those of the bounds that fall, from the first up, so that each can be done when it comes. Its refusals, in
+    /// order, are `Field` if the bounds aren't strictly rising ones in 2..=16,777,216, one less than there are parts,
+    /// and `Moving` if a piece is loose.
     pub fn moves_to(&self, bounds: &[u64]) -> Result<ArrayVec<CutMove, 15>, Refusal>
         ensures answer { MatchResult result (λ moves. recut_answer self.now bounds.now ≡ Ok moves.items)
             (λ why. recut_answer self.now bounds.now ≡ Err why) }
@@ -49,7 +49,7 @@ fn push_move(moves: &mut ArrayVec<CutMove, 15>, bound: usize, from: u32, to: u32
     });
 }
 
-/// The moves of the bounds that rise, from the last down.
+/// Returns the moves of the bounds that rise, from the last down.
 fn rising_moves(regions: &[Region], bounds: &[u64]) -> ArrayVec<CutMove, 15>
     requires rising { are_rising 1 bounds.now ≡ true }
     requires count { length bounds.now + 1 ≡ length regions.now }
@@ -67,7 +67,7 @@ fn rising_moves(regions: &[Region], bounds: &[u64]) -> ArrayVec<CutMove, 15>
     moves
 }
 
-/// The moves of the bounds that fall, from the first up.
+/// Returns the moves of the bounds that fall, from the first up.
 fn falling_moves(regions: &[Region], bounds: &[u64]) -> ArrayVec<CutMove, 15>
     requires rising { are_rising 1 bounds.now ≡ true }
     requires count { length bounds.now + 1 ≡ length regions.now }

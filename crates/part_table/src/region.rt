@@ -62,7 +62,7 @@ pub struct Region {
 }
 
 impl Region {
-    /// Whether this is the region of the part `p`.
+    /// Returns whether this is the region of the part `p`.
     pub(crate) fn is_part(&self, p: u64) -> bool
         ensures { result ≡ is_part p self.now }
     {
@@ -72,7 +72,7 @@ impl Region {
         }
     }
 
-    /// Whether this is the region of the loose piece `n`.
+    /// Returns whether this is the region of the loose piece `n`.
     pub(crate) fn is_piece(&self, n: u64) -> bool
         ensures { result ≡ is_piece n self.now }
     {
@@ -82,7 +82,7 @@ impl Region {
         }
     }
 
-    /// Whether this is the region of some part.
+    /// Returns whether this is the region of some part.
     pub(crate) fn is_of_part(&self) -> bool
         ensures { result ≡ is_of_part self.now }
     {

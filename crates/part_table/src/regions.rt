@@ -39,8 +39,8 @@ impl Model for Regions {
 }
 
 impl Regions {
-    /// Makes the regions of so many parts at opening, where each has its share of the 32 zones of a width. `Field`
-    /// where parts isn't 1..=16 or the width isn't 1..=524,288.
+    /// Makes the regions of so many parts at opening, where each has its share of the 32 zones of a width. It returns
+    /// `Field` if parts isn't 1..=16 or the width isn't 1..=524,288.
     pub fn opening(parts: u8, width: u32) -> Result<Regions, Refusal>
         ensures { result ≡ opening parts width }
     {
@@ -67,8 +67,9 @@ impl Regions {
     }
 
     /// Makes the regions over the ranges of 1 to 16 parts and at most 16 loose pieces, which are numbered anew in their
-    /// order: the parts from 0, the pieces from 1. `NotAdjacent` where the first doesn't begin at 1, one is empty or
-    /// begins elsewhere than the one before it ends, or the last doesn't end at 16,777,217. It takes no memory.
+    /// order: the parts from 0, the pieces from 1. It returns `NotAdjacent` if the first doesn't begin at 1, one is
+    /// empty or begins elsewhere than the one before it ends, or the last doesn't end at 16,777,217. It takes no
+    /// memory.
     pub fn over(ranges: &[Region]) -> Result<Regions, Refusal>
         requires some { 1 ≤ length (parts_of ranges.now) }
         requires parts { length (parts_of ranges.now) ≤ MOST_PARTS }
@@ -92,7 +93,7 @@ impl Regions {
         Ok(Regions { list })
     }
 
-    /// Gives the regions in order.
+    /// Returns the regions in order.
     pub fn list(&self) -> &[Region]
         ensures value { result.now ≡ self.now }
         ensures regions { AreRegions result.now }
@@ -214,8 +215,8 @@ impl Regions {
 
     /// Gives away the stretch of the part `p` on one side of `at`: from `at` on where the side is high, below it where
     /// it is low. The stretch becomes a loose piece with the least number of 1..=16 that is free; the answer is that
-    /// number, and where the piece begins and ends. `NoPart`, then `OutOfRange` where `at` isn't strictly inside the
-    /// part, then `ManyPieces` where sixteen pieces are loose. A refusal changes nothing.
+    /// number, and where the piece begins and ends. Its refusals, in order, are `NoPart`, `OutOfRange` if `at` isn't
+    /// strictly inside the part, and `ManyPieces` if sixteen pieces are loose. A refusal changes nothing.
     pub fn give(&mut self, p: u64, side: Side, at: u64) -> Result<(u8, u32, u32), Refusal>
         ensures answer { result ≡ give_answer p side at self.old }
         ensures after { self.new ≡ after_give p side at result self.old }
@@ -226,7 +227,8 @@ impl Regions {
     }
 
     /// Joins to the part `q` the loose piece `n`, which has to touch it; the answer is the side of the part on which
-    /// the piece lies. `NoPiece`, then `NoPart`, then `NotAdjacent`. A refusal changes nothing.
+    /// the piece lies. Its refusals, in order, are `NoPiece` and `NoPart`, then `NotAdjacent`. A refusal changes
+    /// nothing.
     pub fn take(&mut self, n: u64, q: u64) -> Result<Side, Refusal>
         ensures answer { result ≡ take_answer n q self.old }
         ensures after { self.new ≡ after_take n q result self.old }
@@ -237,14 +239,15 @@ impl Regions {
     }
 }
 
-/// Tells whether a store can have so many parts, 1..=16, and zones of this width, 1..=524,288 subscribers.
+/// Returns whether a store can have so many parts, 1..=16, and zones of this width, 1..=524,288 subscribers.
 pub fn can_open(parts: u8, width: u32) -> bool
     ensures { result ≡ can_open parts width }
 {
     1 <= parts && parts <= MOST_PARTS && 1 <= width && width <= GREATEST_WIDTH
 }
 
-/// What a part with this region answers to a give: the number of the new loose piece, and where it begins and ends.
+/// Returns what a part with this region answers to a give: the number of the new loose piece, and where it begins and
+/// ends.
 fn answer_of(
     regions: &[Region],
     part: Region,
@@ -262,14 +265,14 @@ fn answer_of(
     Ok((n, lo, hi))
 }
 
-/// What a take of a loose piece by a part with these regions answers.
+/// Returns what a take of a loose piece by a part with these regions answers.
 fn side_of_both(piece: Region, part: Region) -> Result<Side, Refusal>
     ensures { result ≡ answer_of_both (Some piece) (Some part) }
 {
     touching(piece, part).ok_or(Refusal::NotAdjacent)
 }
 
-/// The index of the second of two neighbours, by that of the piece that lies on one side of the part.
+/// Returns the index of the second of two neighbours, by that of the piece that lies on one side of the part.
 fn second_index(side: Side, i: usize) -> usize
     requires { i < 32 }
     ensures { result ≡ second_index side i }
@@ -280,7 +283,7 @@ fn second_index(side: Side, i: usize) -> usize
     }
 }
 
-/// The side of a part on which a piece lies, where their ranges touch.
+/// Returns the side of a part on which a piece lies, where their ranges touch.
 fn touching(piece: Region, part: Region) -> Option<Side>
     ensures { result ≡ touching piece part }
 {

@@ -1,4 +1,4 @@
-//! The actions on the rows of one subscriber, and what they answer.
+//! The actions on the rows of one subscriber, and the replies to them.
 ghost use Rattle.std.specs.Prelude.{◌≡◌, ◌&&◌};
 ghost use Rattle.tatp_rows.specs.Number.{is_number};
 ghost use Rattle.tatp_rows.specs.Rows.{is_between, is_start_time};
@@ -10,7 +10,7 @@ use tatp_rows::{
     is_between, is_start_time,
 };
 
-/// An action on the rows of one subscriber, whose s_id it names. Plain numbers are checked when it is done.
+/// An action on the rows of one subscriber, whose s_id it has. Its plain numbers are checked when it is done.
 #[derive(Clone, Copy, Debug, PartialEq, Eq)]
 pub enum Action {
     /// GET_SUBSCRIBER_DATA (TATP, section 3.1): reads the row.
@@ -48,16 +48,16 @@ pub enum Action {
         /// The new data_a.
         data_a: u8,
     },
-    /// The body of UPDATE_LOCATION (TATP, section 3.5): sets vlr_location.
+    /// UPDATE_LOCATION (TATP, section 3.5) by s_id: sets vlr_location.
     UpdateLocation {
         /// The subscriber.
         s_id: u32,
         /// The new location, at least 1.
         vlr_location: u32,
     },
-    /// The body of INSERT_CALL_FORWARDING (TATP, section 3.6): adds a Call_Forwarding row.
+    /// INSERT_CALL_FORWARDING (TATP, section 3.6) by s_id: adds a Call_Forwarding row.
     InsertForwarding(Forwarding),
-    /// The body of DELETE_CALL_FORWARDING (TATP, section 3.7): takes a Call_Forwarding row away.
+    /// DELETE_CALL_FORWARDING (TATP, section 3.7) by s_id: removes a Call_Forwarding row.
     DeleteForwarding {
         /// The subscriber.
         s_id: u32,
@@ -90,21 +90,21 @@ pub enum Action {
     },
 }
 
-/// Whether there can be a subscriber with this s_id.
+/// Returns whether there can be a subscriber with this s_id.
 fn is_subscriber(s_id: u32) -> bool
     ensures { result ≡ is_between 1 LAST_SUBSCRIBER s_id }
 {
     (1..=LAST_SUBSCRIBER).contains(&s_id)
 }
 
-/// Whether there can be a row of a subscriber with this s_id and type.
+/// Returns whether there can be a row of a subscriber with this s_id and type.
 fn is_typed(s_id: u32, kind: u8) -> bool
     ensures { result ≡ is_typed s_id kind }
 {
     is_subscriber(s_id) && is_between(kind, 1, 4)
 }
 
-/// Whether there can be a subscriber with this s_id and number.
+/// Returns whether there can be a subscriber with this s_id and number.
 fn is_numbered(s_id: u32, sub_nbr: Number) -> bool
     ensures { result ≡ (is_between 1 LAST_SUBSCRIBER s_id && is_number sub_nbr) }
 {
@@ -113,7 +113,7 @@ fn is_numbered(s_id: u32, sub_nbr: Number) -> bool
     is_subscriber(s_id)
 }
 
-/// Whether a call can ask for forwardings that start by one hour and end after another.
+/// Returns whether a call can ask for forwardings that start by one hour and end after another.
 fn are_hours_of_call(start_time: u8, end_time: u8) -> bool
     ensures { result ≡ (is_start_time start_time && is_between 1 24 end_time) }
 {
@@ -121,7 +121,7 @@ fn are_hours_of_call(start_time: u8, end_time: u8) -> bool
 }
 
 impl Action {
-    /// Gives the subscriber whose rows it is on.
+    /// Returns the subscriber whose rows the action is on.
     pub fn s_id(&self) -> u32
         ensures { result ≡ s_id_of self.now }
     {
@@ -141,8 +141,8 @@ impl Action {
         }
     }
 
-    /// Tells whether all its fields are in their ranges, without which it is refused with `Field`. Those of a row
-    /// always are.
+    /// Returns whether all fields of the action are in their ranges. If not, the action is refused with `Field`. The
+    /// fields of a row always are.
     pub fn is_in_range(&self) -> bool
         ensures { result ≡ is_in_range self.now }
     {
@@ -183,7 +183,7 @@ impl Action {
     }
 }
 
-/// What an action answers.
+/// The reply to an action.
 #[derive(Debug, PartialEq, Eq, Drop)]
 pub enum RowReply {
     /// The action was done.

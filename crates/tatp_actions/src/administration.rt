@@ -14,7 +14,7 @@ use crate::rows::Rows;
 use tatp_rows::{Access, Facility, Number, Refusal, Subscriber, is_between};
 
 impl<R: Rows> Part<R> {
-    /// Adds a Subscriber row: `Exists`, `Memory`.
+    /// Adds a Subscriber row. Its refusals, in order, are `Exists` and `Memory`.
     #[inline(always)]
     pub(crate) fn add_subscriber(&mut self, row: Subscriber) -> Result<Change, Refusal>
         requires { IsWithin self.old.lo self.old.hi row.s_id }
@@ -27,7 +27,7 @@ impl<R: Rows> Part<R> {
         Ok(change)
     }
 
-    /// Adds an Access_Info row: `NoSubscriber`, `Exists`, `Memory`.
+    /// Adds an Access_Info row. Its refusals, in order, are `NoSubscriber`, `Exists`, and `Memory`.
     #[inline(always)]
     pub(crate) fn add_access(&mut self, row: Access) -> Result<Change, Refusal>
         requires { IsWithin self.old.lo self.old.hi row.s_id }
@@ -42,8 +42,8 @@ impl<R: Rows> Part<R> {
         Ok(Change::row_added(zone))
     }
 
-    /// Adds a Special_Facility row: `NoSubscriber`, `Exists`, `Memory`. No forwarding can have the new facility, so its
-    /// zone alone moves.
+    /// Adds a Special_Facility row. Its refusals, in order, are `NoSubscriber`, `Exists`, and `Memory`. The new
+    /// facility has no forwarding yet, so that only the cell of its zone moves.
     #[inline(always)]
     pub(crate) fn add_facility(&mut self, row: Facility) -> Result<Change, Refusal>
         requires { IsWithin self.old.lo self.old.hi row.s_id }
@@ -58,7 +58,7 @@ impl<R: Rows> Part<R> {
         Ok(Change::row_added(zone))
     }
 
-    /// Switches a facility on or off: `Field`, `NoFacility`.
+    /// Switches a facility on or off. Its refusals, in order, are `Field` and `NoFacility`.
     #[inline(always)]
     pub(crate) fn set_active(
         &mut self,
@@ -91,7 +91,7 @@ impl<R: Rows> Part<R> {
         Ok(Change::hours_moved(up, &spans))
     }
 
-    /// Until when the facility's forwarding from an hour runs: 0 where there is none.
+    /// Returns the hour at which the facility's forwarding from an hour ends, or 0 if there is no such forwarding.
     fn forwarding_until(&mut self, s_id: u32, sf_type: u8, from: u8) -> u8
         ensures value { result ≡ until (forwarding_at self.old.book s_id sf_type from) }
         ensures end { result ≤ FIRST_AREA }
@@ -105,7 +105,7 @@ impl<R: Rows> Part<R> {
         row.end_time()
     }
 
-    /// Gives a subscriber another number: `NoSubscriber`.
+    /// Gives a subscriber another number. It returns `NoSubscriber` if there is no such subscriber.
     #[inline(always)]
     pub(crate) fn set_number(&mut self, s_id: u32, sub_nbr: Number) -> Result<Change, Refusal>
         requires { IsWithin self.old.lo self.old.hi s_id }

@@ -1,21 +1,21 @@
-//! The cells, and where their kinds begin.
+//! The cells, and where each kind of them begins.
 ghost use Rattle.std.specs.Prelude.{◌≡◌, ℕ, ◌<◌, ◌+◌, ◌≤◌, ◌^◌, ◌==◌, List, length, slice_index, slice_set, replicate};
 
 use std::marker::Model;
 
-/// How many cells there are: active forwardings by 24 hours, subscribers by 16 areas, and rows by 32 zones. Hour h has
-/// cell h.
+/// How many cells there are: 24 hours for active forwardings, 16 areas for subscribers, and 32 zones for rows. Hour h
+/// has cell h.
 pub const CELLS: u8 = 72;
 
 // Definitions name these constants, so their numbers are proved here.
 const _: () = prove!(CELLS == 72);
 
-/// The cell of area 0; area a has cell `FIRST_AREA + a`.
+/// The cell of area 0. Area a has cell `FIRST_AREA + a`.
 pub const FIRST_AREA: u8 = 24;
 
 const _: () = prove!(FIRST_AREA == 24);
 
-/// The cell of zone 0; zone z has cell `FIRST_ZONE + z`.
+/// The cell of zone 0. Zone z has cell `FIRST_ZONE + z`.
 pub const FIRST_ZONE: u8 = 40;
 
 const _: () = prove!(FIRST_ZONE == 40);
@@ -49,7 +49,7 @@ impl Cells {
         }
     }
 
-    /// Gives the count of a cell.
+    /// Returns the count of a cell.
     pub fn get(&self, cell: u8) -> u64
         requires { cell < CELLS }
         ensures { result ≡ slice_index self.now cell }
@@ -57,7 +57,7 @@ impl Cells {
         self.counts[usize::from(cell)]
     }
 
-    /// Counts one more in a cell.
+    /// Adds one to the count of a cell.
     pub fn count_one(&mut self, cell: u8)
         requires cell { cell < CELLS }
         requires room { slice_index self.old cell + 1 < 2 ^ 64 }
@@ -66,7 +66,7 @@ impl Cells {
         self.counts[usize::from(cell)] += 1;
     }
 
-    /// Adds the counts of each cell.
+    /// Adds other counts to these, cell by cell.
     pub fn add(&mut self, counts: &Cells)
         requires { (c : ℕ) → c < CELLS → slice_index self.old c + slice_index counts.now c < 2 ^ 64 }
         ensures { (c : ℕ) → c < CELLS → slice_index self.new c ≡ slice_index self.old c + slice_index counts.now c }

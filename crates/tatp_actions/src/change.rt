@@ -1,4 +1,4 @@
-//! By how much an action moves the cells.
+//! The changes of the cells by actions.
 ghost use Rattle.std.specs.Prelude.{◌≡◌, ◌≢◌, ℕ, ◌+◌, ◌<◌, ◌≤◌, true, [], ◌++◌, length, pos, negsuc, ◌+ℤ◌, ◌≤ℤ◌, slice_set, if◌then◌else◌};
 ghost use Rattle.std.specs.Int.RustNames.{FitsSigned};
 ghost use Rattle.std.specs.List.{AllByRecursion};
@@ -13,10 +13,10 @@ use arrayvec::ArrayVec;
 use std::marker::Model;
 use tatp_rows::{Forwarding, area};
 
-/// The most notes that one change has: one for each hour, and one for a zone.
+/// The greatest number of notes in one change: one for each hour, and one for a zone.
 pub const NOTES: usize = FIRST_AREA as usize + 1;
 
-/// Gives a count as it is where it goes up, and negated where it goes down.
+/// Returns a count, negated if `up` is false.
 fn signed(up: bool, count: u8) -> i8
     requires { count ≤ 3 }
     ensures value { result ≡ signed up count }
@@ -28,7 +28,7 @@ fn signed(up: bool, count: u8) -> i8
     if up { count } else { -count }
 }
 
-/// Until when those forwardings of a facility run that start at 0, at 8 and at 16; 0 where there is none.
+/// The hours at which the forwardings of a facility that start at 0, at 8 and at 16 end, or 0 for one that isn't there.
 #[derive(Clone, Copy, Debug)]
 pub(crate) struct Spans {
     pub(crate) from_0: u8,
@@ -37,7 +37,7 @@ pub(crate) struct Spans {
 }
 
 impl Spans {
-    /// Of one forwarding alone.
+    /// Makes the spans of one forwarding alone.
     fn of(row: &Forwarding) -> Self
         ensures ends { AreSpans result }
         ensures covering { (hour : ℕ) → covering result hour ≡ in_span row.now.start_time row.now.end_time hour }
@@ -66,7 +66,7 @@ impl Spans {
         }
     }
 
-    /// How many of them cover an hour.
+    /// Returns how many of the forwardings cover an hour.
     fn covering(&self, hour: u8) -> u8
         ensures value { result ≡ covering self.now hour }
         ensures few { result ≤ 3 }
@@ -78,15 +78,15 @@ impl Spans {
     }
 }
 
-/// A cell, and by how much it moves: 0 where it doesn't.
+/// A note: a cell, and the amount by which it moves, which is 0 if it doesn't.
 #[derive(Clone, Copy, Debug)]
 struct Note {
     cell: u8,
     amount: i8,
 }
 
-/// By how much an action moves the cells, seen as its notes: each a cell and its amount, at most `NOTES`, and no cell
-/// twice.
+/// The change of the cells by an action, seen as its notes. There are at most `NOTES` of them, each with a cell and the
+/// amount by which it moves, and no cell comes twice.
 #[derive(Debug, Drop)]
 pub struct Change {
     up: bool,
@@ -106,7 +106,7 @@ impl Model for Change {
     ghost invariant = { λ c. IsCompact c };
 }
 
-/// Puts a note of a cell behind others, unless its amount is 0.
+/// Appends a note of a cell to others, unless its amount is 0.
 fn push_note(notes: &mut ArrayVec<(u8, i8), NOTES>, cell: u8, amount: i8)
     requires { amount ≢ pos 0 → length notes.old.items < NOTES }
     ensures { notes.new.items ≡ notes.old.items ++ note_of cell amount }
@@ -116,7 +116,7 @@ fn push_note(notes: &mut ArrayVec<(u8, i8), NOTES>, cell: u8, amount: i8)
     }
 }
 
-/// Moves the deltas of the hours from one on up to another by one each, up or down.
+/// Moves the deltas of the hours from one up to another by one each, up or down. The second hour isn't included.
 fn add_span(deltas: &mut [i64; CELLS as usize], up: bool, from: u8, to: u8)
     requires to { to ≤ FIRST_AREA }
     requires fit { (c : ℕ) → c < CELLS → FitsSigned w64 (delta_at deltas.old c) }
@@ -138,7 +138,7 @@ fn add_note(deltas: &mut [i64; CELLS as usize], note: Note)
     deltas[usize::from(note.cell)] += i64::from(note.amount);
 }
 
-/// The hours that a forwarding covers whose facility is active, and none where it isn't.
+/// Returns the hours that a forwarding covers if its facility is active, and none otherwise.
 fn row_spans(active: bool, row: &Forwarding) -> Spans
     ensures ends { AreSpans result }
     ensures covering { (hour : ℕ) → covering result hour ≡ (if active then in_span row.now.start_time row.now.end_time hour else 0) }
@@ -153,7 +153,7 @@ fn row_spans(active: bool, row: &Forwarding) -> Spans
     }
 }
 
-/// An area that doesn't move.
+/// Makes the note of an area that doesn't move.
 fn no_area() -> Note
     ensures { result ≡ record { cell = FIRST_AREA; amount = pos 0 } }
 {
@@ -163,7 +163,7 @@ fn no_area() -> Note
     }
 }
 
-/// A zone that moves by an amount.
+/// Makes the note of a zone that moves by an amount.
 fn zone_note(zone: u8, amount: i8) -> Note
     requires { zone < 32 }
     ensures { result ≡ record { cell = FIRST_ZONE + zone; amount = amount } }
@@ -175,7 +175,7 @@ fn zone_note(zone: u8, amount: i8) -> Note
 }
 
 impl Change {
-    /// The change of two cells.
+    /// Makes the change of two cells.
     fn of_notes(first: Note, second: Note) -> Self
         requires first { IsCellNote first }
         requires second { IsCellNote second }
@@ -194,7 +194,7 @@ impl Change {
         }
     }
 
-    /// The change of the hours that forwardings cover, and of a zone.
+    /// Makes the change of the hours that forwardings cover, and of a zone.
     fn of_hours(up: bool, hours: Spans, zone: Note) -> Self
         requires ends { AreSpans hours }
         requires zone { IsCellNote zone }
@@ -216,7 +216,7 @@ impl Change {
         Change::of_notes(no_area(), zone_note(0, 0))
     }
 
-    /// Gives the notes, each a cell and by how much it moves.
+    /// Returns the notes, each with a cell and the amount by which it moves.
     pub fn notes(&self) -> ArrayVec<(u8, i8), NOTES>
         ensures value { result.items ≡ self.now }
         ensures few { length self.now ≤ NOTES }
@@ -232,7 +232,7 @@ impl Change {
         notes
     }
 
-    /// Moves each cell's delta by what the notes say of it. Each sum has to fit 64 bits.
+    /// Adds to the delta of each cell what the notes say of it. Each sum has to fit into 64 bits.
     pub fn add_to(&self, deltas: &mut [i64; CELLS as usize])
         requires { NotesFit deltas.old self.now }
         ensures { (c : ℕ) → c < CELLS → delta_at deltas.new c ≡ delta_at deltas.old c +ℤ change_at self.now c }
@@ -244,7 +244,7 @@ impl Change {
         add_note(deltas, self.second);
     }
 
-    /// The change where a subscriber moves from one location to another: none within an area.
+    /// Returns the change when a subscriber moves from one location to another. It is empty if both are in one area.
     pub(crate) fn location_moved(from: u32, to: u32) -> Self
         ensures { result ≡ area_moved (area_of from) (area_of to) }
     {
@@ -264,7 +264,7 @@ impl Change {
         Change::of_notes(left, entered)
     }
 
-    /// The change where a subscriber is added at a location, in a zone.
+    /// Returns the change when a subscriber is added at a location, in a zone.
     pub(crate) fn subscriber_added(vlr_location: u32, zone: u8) -> Self
         requires { zone < 32 }
         ensures { result ≡ subscriber_added (area_of vlr_location) zone }
@@ -276,7 +276,7 @@ impl Change {
         Change::of_notes(entered, zone_note(zone, 1))
     }
 
-    /// The change where a row of another table than Subscriber comes into a zone.
+    /// Returns the change when a row of a table other than Subscriber is added in a zone.
     pub(crate) fn row_added(zone: u8) -> Self
         requires { zone < 32 }
         ensures { result ≡ row_moved true zone }
@@ -284,8 +284,8 @@ impl Change {
         Change::of_notes(no_area(), zone_note(zone, 1))
     }
 
-    /// The change of the hours where forwardings of an active facility come or go: each that they cover moves by how
-    /// many do.
+    /// Returns the change of the hours when forwardings of an active facility are added, removed or switched: each hour
+    /// moves by the number of them that cover it.
     pub(crate) fn hours_moved(up: bool, spans: &Spans) -> Self
         requires { AreSpans spans.now }
         ensures { AreHours (span_amount up spans.now) FIRST_AREA result }
@@ -293,7 +293,7 @@ impl Change {
         Change::of_hours(up, *spans, zone_note(0, 0))
     }
 
-    /// The change where a forwarding comes or goes, whose facility is active or not.
+    /// Returns the change when a forwarding is added or removed, given whether its facility is active.
     pub(crate) fn forwarding_moved(up: bool, active: bool, row: &Forwarding, zone: u8) -> Self
         requires { zone < 32 }
         ensures { AreForwardingNotes up active row.now zone result }

@@ -1,4 +1,4 @@
-//! A part that is cut in two, and two parts that become one.
+//! The cut of a part in two, and the join of two parts.
 ghost use Rattle.std.specs.Prelude.{◌≡◌, ◌<◌, ◌≤◌, ℕ, [], Err, IfOk, IfErr, OnOk, OnErr};
 ghost use Rattle.mr_cut.specs.Bounds.{most_of_slice, fewest_of_slice, most_of_meld, fewest_of_meld};
 ghost use Rattle.tatp_actions.specs.Book.{empty_book};
@@ -18,8 +18,8 @@ use part_table::Side;
 use std::mem;
 use tatp_rows::{Back, Refusal, subscriber_key};
 
-/// Cuts a tree at a key: it keeps the rows of one side, and those of the side that is named stand in another one, in
-/// place of its own; how many steps it took.
+/// Cuts a tree at a key. It keeps the rows of one side, and moves those of the side that is named into another tree, in
+/// place of the rows there. It returns how many steps it took.
 fn cut_tree<V: Drop + Default>(
     tree: &mut SubTree<V>,
     given: &mut SubTree<V>,
@@ -43,7 +43,7 @@ fn cut_tree<V: Drop + Default>(
     }
 }
 
-/// Exchanges two trees. It is not inlined, so that the stack of a cut or a join holds no tree.
+/// Exchanges two trees. The function is not inlined, so that no tree is on the stack of a cut or a join.
 #[inline(never)]
 fn exchange<V: Drop>(one: &mut SubTree<V>, two: &mut SubTree<V>)
     ensures one { one.new ≡ two.old }
@@ -52,8 +52,8 @@ fn exchange<V: Drop>(one: &mut SubTree<V>, two: &mut SubTree<V>)
     mem::swap(one, two);
 }
 
-/// Joins a tree with another one, whose keys are all higher or all lower: it has the rows of both, and the other one
-/// none; how many steps it took.
+/// Joins a tree with another one, whose keys are all higher or all lower. The tree has the rows of both afterwards, and
+/// the other one has none. It returns how many steps it took.
 fn join_tree<V: Drop + Default>(
     tree: &mut SubTree<V>,
     other: &mut SubTree<V>,
@@ -79,8 +79,8 @@ fn join_tree<V: Drop + Default>(
 }
 
 impl Trees {
-    /// Cuts the trees at a key: they keep one side, and the side that is named goes into others, which were not asked
-    /// yet; how many steps it took.
+    /// Cuts the trees at a key. They keep one side, and the side that is named goes into other trees, which were not
+    /// asked yet. It returns how many steps it took.
     fn cut_into(&mut self, given: &mut Trees, side: Side, key: u64, stocks: Stocks) -> u64
         requires { AreForSlice (heights_of self.old) stocks }
         ensures kept { tables_of self.new ≡ kept_tables side key (tables_of self.old) }
@@ -120,8 +120,8 @@ impl Trees {
             )
     }
 
-    /// Joins the trees with others, whose keys are all higher or all lower, and which have no row then; how many steps
-    /// it took.
+    /// Joins the trees with others, whose keys are all higher or all lower, and which have no row afterwards. It
+    /// returns how many steps it took.
     fn join_from(&mut self, other: &mut Trees, side: Side, stocks: Stocks) -> u64
         requires apart { TablesApartAt side (tables_of self.old) (tables_of other.old) }
         requires stocks { AreForMeld (heights_of self.old) (heights_of other.old) stocks }
@@ -160,10 +160,11 @@ impl Trees {
 }
 
 impl Part {
-    /// Cuts the part at a subscriber strictly inside its range: it keeps one half, and gives the other one, on
-    /// the side that is named, which was never asked, cut or joined.
+    /// Cuts the part at a subscriber strictly inside its range. It keeps one half, and returns the other one, on the
+    /// side that is named, as a part that was never asked, cut or joined.
     ///
-    /// `Memory` where the blank nodes can't be had, all of which are taken first: then the part is as before.
+    /// It returns `Memory` if the system refuses memory for the blank nodes, all of which are taken first, and then the
+    /// part is as before.
     pub fn slice(&mut self, at: u32, side: Side) -> Result<Part, Refusal>
         requires inside { (self.old.lo < at) × (at < self.old.hi) }
         ensures given { IfOk result (λ given. given ≡ record (given_part side at self.old) {
@@ -195,10 +196,11 @@ impl Part {
         }
     }
 
-    /// Cuts the part at a subscriber strictly inside its range, as `slice` does, and puts the half that it gives in the
-    /// place of another part, whose own rows are let go.
+    /// Cuts the part at a subscriber strictly inside its range, as `slice` does, and puts the half that it gives away
+    /// in the place of another part, whose own rows are dropped.
     ///
-    /// `Memory` where the blank nodes can't be had, all of which are taken first: then both are as before.
+    /// It returns `Memory` if the system refuses memory for the blank nodes, all of which are taken first, and then
+    /// both are as before.
     pub fn slice_into(&mut self, at: u32, side: Side, given: &mut Part) -> Result<(), Refusal>
         requires inside { (self.old.lo < at) × (at < self.old.hi) }
         ensures given { OnOk result (given.new ≡ record (given_part side at self.old) {
@@ -243,11 +245,11 @@ impl Part {
         }
     }
 
-    /// Takes the rows and the range of another part of the same width of zones, which begins where this one ends, or
-    /// ends where it begins.
+    /// Takes the rows and the range of another part with the same zone width, which begins where this one ends, or ends
+    /// where it begins.
     ///
-    /// `Memory` where the blank nodes can't be had, all of which are taken first: then the part is as before, and the
-    /// other one is handed back as it was.
+    /// It returns `Memory` if the system refuses memory for the blank nodes, all of which are taken first. Then the
+    /// part is as before, and the other one is handed back as it was.
     pub fn meld(&mut self, mut other: Part) -> Result<(), Back<Part>>
         requires touch { Touch self.old other }
         requires width { self.old.width ≡ other.width }
@@ -274,9 +276,10 @@ impl Part {
         }
     }
 
-    /// Takes the rows and the range of another part, as `meld` does: the other one has no row then.
+    /// Takes the rows and the range of another part, as `meld` does, and leaves it without rows.
     ///
-    /// `Memory` where the blank nodes can't be had, all of which are taken first: then both are as before.
+    /// It returns `Memory` if the system refuses memory for the blank nodes, all of which are taken first, and then
+    /// both are as before.
     pub fn meld_from(&mut self, other: &mut Part) -> Result<(), Refusal>
         requires touch { Touch self.old other.old }
         requires width { self.old.width ≡ other.old.width }
@@ -308,7 +311,7 @@ impl Part {
         Ok(())
     }
 
-    /// Tells how many steps the last cut or join of the part took: 0 where there was none.
+    /// Returns how many steps the last cut or join of the part took, or 0 if there was none.
     pub fn last_steps(&self) -> u64
         ensures { result ≡ self.now.steps }
     {

@@ -1,4 +1,4 @@
-//! The numbers that a call is forwarded to: one rule, for rows that are lent and for rows that are asked.
+//! The numbers to which a call is forwarded, by one rule for rows that are lent and for rows that are asked for.
 ghost use Rattle.std.specs.Prelude.{◌≡◌, ◌+◌, ◌<◌, ◌≤◌, ◌++◌, [], if◌then◌else◌};
 ghost use Rattle.std.specs.Option.{option_to_list};
 ghost use Rattle.arrayvec.specs.ArrayVec.{array_vec_len};
@@ -12,22 +12,22 @@ use crate::rows::Rows;
 use arrayvec::ArrayVec;
 use tatp_rows::{Facility, Forwarding, Number};
 
-/// Finds the rows of a facility by key, each with one question at most.
+/// A store that finds the rows of a facility by key, with at most one question for each.
 pub(crate) trait FacilityRows {
     ghost part: { Self → PartState };
 
-    /// The Special_Facility row of a subscriber's facility, where there is one.
+    /// Returns the Special_Facility row of a subscriber's facility, or `None` if there is none.
     fn find_facility(&mut self, s_id: u32, sf_type: u8) -> Option<Facility>
         ensures found { result ≡ facility_at (part self.old).book s_id sf_type }
         ensures asked { IsOnlyAsked 1 (part self.old) (part self.new) };
 
-    /// The Call_Forwarding row of a facility that starts at an hour, where there is one.
+    /// Returns the Call_Forwarding row of a facility that starts at an hour, or `None` if there is none.
     fn find_forwarding(&mut self, s_id: u32, sf_type: u8, hour: u8) -> Option<Forwarding>
         ensures found { result ≡ forwarding_at (part self.old).book s_id sf_type hour }
         ensures asked { IsOnlyAsked 1 (part self.old) (part self.new) };
 }
 
-/// A part that counts each question.
+/// A part that counts each question finds them.
 impl<R: Rows> FacilityRows for Part<R> {
     ghost part = { λ part. part };
 
@@ -42,7 +42,7 @@ impl<R: Rows> FacilityRows for Part<R> {
     }
 }
 
-/// A part that lends its rows and counts no question.
+/// A part that lends its rows, and counts no question, finds them.
 impl FacilityRows for &Part {
     ghost part = { λ part. part.now };
 
@@ -57,8 +57,8 @@ impl FacilityRows for &Part {
     }
 }
 
-/// The numbers of the forwardings of an active facility that start by one hour and end after another, in the order of
-/// their start times: at most three, and none where the facility isn't active.
+/// Returns the numbers of the forwardings of an active facility that start by one hour and end after another, in the
+/// order of their start times. There are at most three, and none if the facility isn\'t active.
 #[inline(always)]
 pub(crate) fn find_destinations<F: FacilityRows>(
     rows: &mut F,
@@ -80,7 +80,8 @@ pub(crate) fn find_destinations<F: FacilityRows>(
     numbers_of(first, second, third)
 }
 
-/// The number of the forwarding that starts at an hour, where it starts no later than the call and ends after it.
+/// Returns the number of the forwarding that starts at an hour, if that is no later than the start of the call, and if
+/// it ends after the call.
 fn find_destination<F: FacilityRows>(
     rows: &mut F,
     s_id: u32,
@@ -100,7 +101,7 @@ fn find_destination<F: FacilityRows>(
     number_of(found, hour, start_time, end_time)
 }
 
-/// Tells the number of a forwarding that was found at an hour, where it takes a call of these times.
+/// Returns the number of a forwarding that was found at an hour, if it takes a call of these times.
 #[inline(always)]
 pub(crate) fn number_of(
     found: Option<Forwarding>,
@@ -118,7 +119,7 @@ pub(crate) fn number_of(
     }
 }
 
-/// Whether a facility was found and is active.
+/// Returns whether a facility was found and is active.
 #[inline(always)]
 pub(crate) fn is_active(found: Option<Facility>) -> bool
     ensures { result ≡ has_active found }
@@ -129,7 +130,7 @@ pub(crate) fn is_active(found: Option<Facility>) -> bool
     }
 }
 
-/// Lists the numbers that were found, in order, where the facility was found and is active.
+/// Lists the numbers that were found, in order, if the facility was found and is active.
 pub(crate) fn numbers_of_active(
     facility: Option<Facility>,
     first: Option<Number>,
@@ -144,7 +145,7 @@ pub(crate) fn numbers_of_active(
     numbers_of(first, second, third)
 }
 
-/// The numbers that were found, in order.
+/// Returns the numbers that were found, in order.
 fn numbers_of(
     first: Option<Number>,
     second: Option<Number>,
@@ -159,7 +160,7 @@ fn numbers_of(
     numbers
 }
 
-/// Appends a number, where one was found.
+/// Appends a number, if one was found.
 fn push_found(numbers: &mut ArrayVec<Number, 3>, found: Option<Number>)
     requires { array_vec_len numbers.old < 3 }
     ensures { numbers.new.items ≡ numbers.old.items ++ option_to_list found }

@@ -1,5 +1,5 @@
-//! Actions that change rows, each as a type of its own, so that none is looked up by which one it is as it goes down to
-//! the rows.
+//! The actions that change rows, each as a type of its own, so that no code on the way to the rows has to test which
+//! action it is.
 ghost use Rattle.std.specs.Prelude.{◌≡◌};
 ghost use Rattle.tatp_actions.specs.Action.{done_reply, s_id_of};
 ghost use Rattle.tatp_actions.specs.Book.{IsWithin};
@@ -19,15 +19,15 @@ use tatp_rows::{Access, Facility, Forwarding, Number, Refusal, Subscriber};
 pub trait Edit: Copy {
     ghost action: { Self → Action };
 
-    /// Gives the subscriber whose rows it changes.
+    /// Returns the subscriber whose rows the edit changes.
     fn s_id(&self) -> u32
         ensures { result ≡ s_id_of (action self.now) };
 
-    /// Gives the action that it is.
+    /// Returns the action that the edit is.
     fn to_action(&self) -> Action
         ensures { result ≡ action self.now };
 
-    /// Does the action on the rows of a part that has the subscriber: by how much each cell moves, or why it was
+    /// Does the edit on a part that has its subscriber in its range. It returns the change of the cells, or why it was
     /// refused.
     fn make<R: Rows>(self, part: &mut Part<R>) -> Result<Change, Refusal>
         requires { IsWithin part.old.lo part.old.hi (s_id_of (action self)) }
@@ -72,7 +72,7 @@ impl Edit for UpdateSubscriber {
     }
 }
 
-/// The body of UPDATE_LOCATION (TATP, section 3.5): sets vlr_location.
+/// UPDATE_LOCATION (TATP, section 3.5) by s_id: sets vlr_location.
 #[derive(Clone, Copy, Debug, PartialEq, Eq)]
 pub struct UpdateLocation {
     /// The subscriber.
@@ -103,7 +103,7 @@ impl Edit for UpdateLocation {
     }
 }
 
-/// The body of INSERT_CALL_FORWARDING (TATP, section 3.6): adds a Call_Forwarding row.
+/// INSERT_CALL_FORWARDING (TATP, section 3.6) by s_id: adds a Call_Forwarding row.
 #[derive(Clone, Copy, Debug, PartialEq, Eq)]
 pub struct InsertForwarding {
     /// The new row.
@@ -129,7 +129,7 @@ impl Edit for InsertForwarding {
     }
 }
 
-/// The body of DELETE_CALL_FORWARDING (TATP, section 3.7): takes a Call_Forwarding row away.
+/// DELETE_CALL_FORWARDING (TATP, section 3.7) by s_id: removes a Call_Forwarding row.
 #[derive(Clone, Copy, Debug, PartialEq, Eq)]
 pub struct DeleteForwarding {
     /// The subscriber.

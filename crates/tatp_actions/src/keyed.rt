@@ -1,5 +1,5 @@
-//! The rows of a part by their keys. Each call asks the rows once, but those that change a row where it lies may ask
-//! twice, and keeps the rules of the part.
+//! The calls that reach the rows of a part by their keys. Each asks the rows once, except that a call which changes a
+//! row where it lies may ask twice. All of them keep the rules of the part.
 ghost use Rattle.std.specs.Prelude.{◌≡◌, ◌+◌, ◌≤◌, IfSome, IsSome, is_some};
 ghost use Rattle.tatp_actions.specs.Book.{IsWithin, has_active, subscriber_at, access_at, facility_at, forwarding_at, more_subscribers, more_access, more_facilities, more_forwardings, without_forwarding};
 ghost use Rattle.tatp_actions.specs.Part.{IsPart};
@@ -13,7 +13,7 @@ use mr_node::Revise;
 use tatp_rows::{Access, Facility, Forwarding, Refusal, Subscriber, row_key, subscriber_key};
 
 impl<R: Rows> Part<R> {
-    /// The Subscriber row of a subscriber.
+    /// Returns the Subscriber row of a subscriber.
     pub(crate) fn subscriber(&mut self, s_id: u32) -> Option<Subscriber>
         ensures found { result ≡ subscriber_at self.old.book s_id }
         ensures kept { self.new ≡ asked_once self.old }
@@ -22,7 +22,7 @@ impl<R: Rows> Part<R> {
         self.rows.get_s(subscriber_key(s_id)).copied()
     }
 
-    /// Whether there is a Subscriber row of a subscriber.
+    /// Returns whether there is a Subscriber row of a subscriber.
     pub(crate) fn has_subscriber(&mut self, s_id: u32) -> bool
         ensures value { result ≡ is_some (subscriber_at self.old.book s_id) }
         ensures kept { self.new ≡ asked_once self.old }
@@ -31,7 +31,7 @@ impl<R: Rows> Part<R> {
         self.rows.get_s(subscriber_key(s_id)).is_some()
     }
 
-    /// The Access_Info row of a subscriber's access.
+    /// Returns the Access_Info row of a subscriber's access.
     pub(crate) fn access(&mut self, s_id: u32, ai_type: u8) -> Option<Access>
         ensures found { result ≡ access_at self.old.book s_id ai_type }
         ensures kept { self.new ≡ asked_once self.old }
@@ -40,7 +40,7 @@ impl<R: Rows> Part<R> {
         self.rows.get_a(row_key(s_id, ai_type, 0)).copied()
     }
 
-    /// The Special_Facility row of a subscriber's facility.
+    /// Returns the Special_Facility row of a subscriber's facility.
     pub(crate) fn facility(&mut self, s_id: u32, sf_type: u8) -> Option<Facility>
         ensures found { result ≡ facility_at self.old.book s_id sf_type }
         ensures kept { self.new ≡ asked_once self.old }
@@ -49,7 +49,7 @@ impl<R: Rows> Part<R> {
         self.rows.get_f(row_key(s_id, sf_type, 0)).copied()
     }
 
-    /// Whether a subscriber has an active facility of a type.
+    /// Returns whether a subscriber has an active facility of a type.
     pub(crate) fn has_active(&mut self, s_id: u32, sf_type: u8) -> bool
         ensures value { result ≡ has_active (facility_at self.old.book s_id sf_type) }
         ensures kept { self.new ≡ asked_once self.old }
@@ -58,7 +58,7 @@ impl<R: Rows> Part<R> {
         is_active(self.facility(s_id, sf_type))
     }
 
-    /// The Call_Forwarding row of a facility that starts at an hour.
+    /// Returns the Call_Forwarding row of a facility that starts at an hour.
     pub(crate) fn forwarding(
         &mut self,
         s_id: u32,
@@ -72,8 +72,8 @@ impl<R: Rows> Part<R> {
         self.rows.get_c(row_key(s_id, sf_type, start_time)).copied()
     }
 
-    /// Changes the Subscriber row of a subscriber where it lies, into one of the same subscriber: false where there is
-    /// none.
+    /// Changes the Subscriber row of a subscriber where it lies, into one of the same subscriber. It returns false if
+    /// there is none.
     #[inline(always)]
     pub(crate) fn revise_subscriber<E: Revise<Subscriber>>(
         &mut self,
@@ -92,8 +92,8 @@ impl<R: Rows> Part<R> {
         self.rows.revise_s(subscriber_key(s_id), revision)
     }
 
-    /// Changes the Special_Facility row of a facility where it lies, into one of the same facility: false where there
-    /// is none.
+    /// Changes the Special_Facility row of a facility where it lies, into one of the same facility. It returns false if
+    /// there is none.
     #[inline(always)]
     pub(crate) fn revise_facility<E: Revise<Facility>>(
         &mut self,
@@ -113,7 +113,7 @@ impl<R: Rows> Part<R> {
         self.rows.revise_f(row_key(s_id, sf_type, 0), revision)
     }
 
-    /// Adds a Subscriber row of the part's range: `Exists`, `Memory`.
+    /// Adds a Subscriber row in the part's range. Its refusals, in order, are `Exists` and `Memory`.
     pub(crate) fn more_subscribers(&mut self, row: Subscriber) -> Result<(), Refusal>
         requires { IsWithin self.old.lo self.old.hi row.s_id }
         ensures added { IsAdded (is_some (subscriber_at self.old.book row.s_id)) self.old.book (more_subscribers self.old.book row) self.new.book result }
@@ -125,7 +125,7 @@ impl<R: Rows> Part<R> {
         Ok(())
     }
 
-    /// Adds an Access_Info row of a subscriber: `Exists`, `Memory`.
+    /// Adds an Access_Info row of a subscriber. Its refusals, in order, are `Exists` and `Memory`.
     pub(crate) fn more_access(&mut self, row: Access) -> Result<(), Refusal>
         requires { IsSome (subscriber_at self.old.book row.s_id) }
         ensures added { IsAdded (is_some (access_at self.old.book row.s_id row.ai_type)) self.old.book (more_access self.old.book row) self.new.book result }
@@ -137,7 +137,7 @@ impl<R: Rows> Part<R> {
         Ok(())
     }
 
-    /// Adds a Special_Facility row of a subscriber: `Exists`, `Memory`.
+    /// Adds a Special_Facility row of a subscriber. Its refusals, in order, are `Exists` and `Memory`.
     pub(crate) fn more_facilities(&mut self, row: Facility) -> Result<(), Refusal>
         requires { IsSome (subscriber_at self.old.book row.s_id) }
         ensures added { IsAdded (is_some (facility_at self.old.book row.s_id row.sf_type)) self.old.book (more_facilities self.old.book row) self.new.book result }
@@ -149,7 +149,7 @@ impl<R: Rows> Part<R> {
         Ok(())
     }
 
-    /// Adds a Call_Forwarding row of a facility: `Exists`, `Memory`.
+    /// Adds a Call_Forwarding row of a facility. Its refusals, in order, are `Exists` and `Memory`.
     pub(crate) fn more_forwardings(&mut self, row: Forwarding) -> Result<(), Refusal>
         requires { IsSome (facility_at self.old.book row.s_id row.sf_type) }
         ensures added { IsAdded (is_some (forwarding_at self.old.book row.s_id row.sf_type row.start_time)) self.old.book (more_forwardings self.old.book row) self.new.book result }
@@ -161,7 +161,7 @@ impl<R: Rows> Part<R> {
         Ok(())
     }
 
-    /// Takes the Call_Forwarding row of a facility that starts at an hour away, where there is one.
+    /// Removes the Call_Forwarding row of a facility that starts at an hour, if there is one.
     pub(crate) fn remove_forwarding(
         &mut self,
         s_id: u32,

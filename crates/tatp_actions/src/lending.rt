@@ -10,7 +10,7 @@ use arrayvec::ArrayVec;
 use tatp_rows::{Access, Facility, Forwarding, Number, Subscriber, row_key, subscriber_key};
 
 impl Part {
-    /// Lends the Subscriber row of a subscriber, where there is one.
+    /// Lends the Subscriber row of a subscriber, or returns `None` if there is none.
     pub fn lend_subscriber(&self, s_id: u32) -> Option<&Subscriber>
         ensures { option_copied result ≡ subscriber_at self.now.book s_id }
     {
@@ -19,15 +19,15 @@ impl Part {
             .get_by_guess(subscriber_key(s_id), KEY_SHIFT)
     }
 
-    /// Lends the Access_Info row of a subscriber's access, where there is one.
+    /// Lends the Access_Info row of a subscriber's access, or returns `None` if there is none.
     pub fn lend_access(&self, s_id: u32, ai_type: u8) -> Option<&Access>
         ensures { option_copied result ≡ access_at self.now.book s_id ai_type }
     {
         self.rows.access.get(row_key(s_id, ai_type, 0))
     }
 
-    /// Tells the numbers of the forwardings of an active facility that start by one hour and end after another, in the
-    /// order of their start times: at most three, and none where the facility isn't active.
+    /// Returns the numbers of the forwardings of an active facility that start by one hour and end after another, in
+    /// the order of their start times. There are at most three, and none if the facility isn\'t active.
     pub fn destinations(
         &self,
         s_id: u32,
@@ -43,7 +43,7 @@ impl Part {
         find_destinations(&mut rows, s_id, sf_type, start_time, end_time)
     }
 
-    /// Lends the Special_Facility row of a subscriber's facility, where there is one.
+    /// Lends the Special_Facility row of a subscriber's facility, or returns `None` if there is none.
     #[inline(always)]
     pub fn lend_facility(&self, s_id: u32, sf_type: u8) -> Option<&Facility>
         ensures { option_copied result ≡ facility_at self.now.book s_id sf_type }
@@ -51,7 +51,7 @@ impl Part {
         self.rows.facilities.get(row_key(s_id, sf_type, 0))
     }
 
-    /// Lends the Call_Forwarding row of a facility that starts at an hour, where there is one.
+    /// Lends the Call_Forwarding row of a facility that starts at an hour, or returns `None` if there is none.
     #[inline(always)]
     pub fn lend_forwarding(&self, s_id: u32, sf_type: u8, hour: u8) -> Option<&Forwarding>
         ensures { option_copied result ≡ forwarding_at self.now.book s_id sf_type hour }

@@ -1,8 +1,8 @@
 //! A part of the store: the rows of a range of subscribers, the seven transactions of TATP (its description, section 3)
-//! and the administrative actions on them, and by how much each moves each cell. An action goes down a path or two for
-//! each row that it touches, and only one that adds a row takes memory. A part belongs to one owner, as a sub-tree does
-//! in physiological partitioning (PLP), and needs no latch: its counts are right only while that owner adds up every
-//! change.
+//! and the administrative actions on them, and the change of the cells by each. An action goes down one or two paths
+//! for each row that it touches, and only one that adds a row takes memory. A part belongs to one owner, as a sub-tree
+//! does in physiological partitioning (PLP), so it needs no latch. Its counts are right as long as that owner adds up
+//! every change.
 #![tactic(auto)]
 
 mod action;

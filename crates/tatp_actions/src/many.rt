@@ -1,4 +1,4 @@
-//! Rows and destinations of several subscribers, looked for side by side.
+//! The rows and destinations of several subscribers, looked up with overlapping memory accesses.
 ghost use Rattle.std.specs.Prelude.{◌≡◌, ◌≤◌, [], length, map, nat_lt, None};
 ghost use Rattle.std.specs.List.{list_all};
 ghost use Rattle.tatp_rows.specs.Keys.{key_of};
@@ -11,7 +11,7 @@ use crate::part::Part;
 use arrayvec::ArrayVec;
 use tatp_rows::{Access, Number, Subscriber, row_key, subscriber_key};
 
-/// The keys of the Subscriber rows of these subscribers.
+/// Returns the keys of the Subscriber rows of these subscribers.
 fn subscriber_keys(s_ids: &[u32]) -> ArrayVec<u64, 16>
     requires { length s_ids.now ≤ 16 }
     ensures { result.items ≡ map (λ s_id. key_of s_id 0 0) s_ids.now }
@@ -23,7 +23,7 @@ fn subscriber_keys(s_ids: &[u32]) -> ArrayVec<u64, 16>
     keys
 }
 
-/// The keys of these Access_Info rows, each asked by its s_id and ai_type.
+/// Returns the keys of these Access_Info rows, each asked for by its s_id and ai_type.
 fn access_keys(asked: &[(u32, u8)]) -> ArrayVec<u64, 16>
     requires { length asked.now ≤ 16 }
     ensures { result.items ≡ map (λ a. key_of a.0 a.1 0) asked.now }
@@ -36,8 +36,8 @@ fn access_keys(asked: &[(u32, u8)]) -> ArrayVec<u64, 16>
     keys
 }
 
-/// Makes the keys of rows of the facilities of these calls: of forwardings that start at an hour, or at 0 of the
-/// facilities.
+/// Makes the keys of the forwardings of these calls' facilities that start at an hour. For hour 0, these are also the
+/// keys of the facilities.
 fn call_keys(asked: &[(u32, u8, u8, u8)], hour: u8) -> ArrayVec<u64, 16>
     requires { length asked.now ≤ 16 }
     ensures { result.items ≡ map (λ q. key_of q.0 q.1 hour) asked.now }
@@ -50,14 +50,14 @@ fn call_keys(asked: &[(u32, u8, u8, u8)], hour: u8) -> ArrayVec<u64, 16>
     keys
 }
 
-/// Tells whether each of these calls starts before an hour.
+/// Returns whether each of these calls starts before an hour.
 fn are_before(asked: &[(u32, u8, u8, u8)], hour: u8) -> bool
     ensures { result ≡ list_all (λ q. nat_lt q.2 hour) asked.now }
 {
     asked.iter().all(|call| call.2 < hour)
 }
 
-/// Lists `None` for each of these calls.
+/// Returns a list with `None` for each of these calls.
 fn no_numbers(asked: &[(u32, u8, u8, u8)]) -> ArrayVec<Option<Number>, 16>
     requires { length asked.now ≤ 16 }
     ensures { result.items ≡ map (λ q. None) asked.now }
@@ -70,8 +70,8 @@ fn no_numbers(asked: &[(u32, u8, u8, u8)]) -> ArrayVec<Option<Number>, 16>
 }
 
 impl Part {
-    /// Puts the Subscriber rows of up to 16 subscribers into an empty list, one for each in their order, `None` where
-    /// there is none. The rows are looked for side by side, so that their waits for memory overlap.
+    /// Puts the Subscriber rows of up to 16 subscribers into an empty list, one for each in their order, with `None` if
+    /// there is none. The rows are looked up with overlapping memory accesses, so that their waits for memory overlap.
     pub fn copy_subscribers(&self, s_ids: &[u32], rows: &mut ArrayVec<Option<Subscriber>, 16>)
         requires few { length s_ids.now ≤ 16 }
         requires empty { rows.old.items ≡ [] }
@@ -81,8 +81,8 @@ impl Part {
         self.rows.subscribers.copy_many(keys.as_slice(), rows);
     }
 
-    /// Puts up to 16 Access_Info rows into an empty list, each asked by its s_id and ai_type, in the order in which
-    /// they are asked, `None` where there is none. The rows are looked for side by side.
+    /// Puts up to 16 Access_Info rows into an empty list, each asked for by its s_id and ai_type, in the order of the
+    /// queries, with `None` if there is none. The rows are looked up with overlapping memory accesses.
     pub fn copy_access(&self, asked: &[(u32, u8)], rows: &mut ArrayVec<Option<Access>, 16>)
         requires few { length asked.now ≤ 16 }
         requires empty { rows.old.items ≡ [] }
@@ -92,8 +92,8 @@ impl Part {
         self.rows.access.copy_many(keys.as_slice(), rows);
     }
 
-    /// Finds the numbers of the forwardings that start at an hour and take these calls, `None` where none does. Where
-    /// each call starts before the hour, no row is looked for.
+    /// Finds the numbers of the forwardings that start at an hour and take these calls, with `None` for a call that
+    /// none takes. If each call starts before the hour, no row is looked up.
     fn hour_numbers(&self, asked: &[(u32, u8, u8, u8)], hour: u8) -> ArrayVec<Option<Number>, 16>
         requires { length asked.now ≤ 16 }
         ensures { result.items ≡ map (λ q. destination q.0 q.1 q.2 q.3 (forwarding_at self.now.book q.0 q.1 hour)) asked.now }
@@ -114,9 +114,9 @@ impl Part {
         numbers
     }
 
-    /// Puts the numbers to which up to 16 calls are forwarded into an empty list, as `destinations` tells them, of each
-    /// call by its s_id, sf_type, start_time and end_time, in the order in which they are asked. The rows are looked
-    /// for side by side.
+    /// Puts the numbers to which up to 16 calls are forwarded into an empty list, as `destinations` returns them, in
+    /// the order of the queries. Each call is asked for by its s_id, sf_type, start_time and end_time. The rows are
+    /// looked up with overlapping memory accesses.
     pub fn copy_destinations(
         &self,
         asked: &[(u32, u8, u8, u8)],

@@ -19,14 +19,14 @@ use std::marker::Model;
 use std::num::NonZeroU32;
 use tatp_rows::{Refusal, zone};
 
-/// The rows of the subscribers of a range lo..hi (hi excluded), with the width of the zones by which they count.
+/// The rows of the subscribers in a range lo..hi, where hi is excluded, with the zone width by which they are counted.
 #[derive(Drop)]
 pub struct Part<R: Rows = Trees> {
     pub(crate) rows: R,
     pub(crate) lo: u32,
     pub(crate) hi: u32,
     pub(crate) width: u32,
-    // For the calls that cut and join parts.
+    // The allocator, for the calls that cut and join parts.
     pub(crate) alloc: Global,
     // How many steps the last cut or join took.
     pub(crate) last_steps: u64,
@@ -59,14 +59,14 @@ impl<R: Rows> Model for Part<R> {
     }) × AreKeyed (R.tables p.rows) };
 }
 
-/// A refusal, which moves no cell.
+/// Makes the reply and the change of an action that was refused, which moves no cell.
 pub(crate) fn refused(why: Refusal) -> (RowReply, Change)
     ensures { result ≡ (RowReply.Refused why, []) }
 {
     (RowReply::Refused(why), Change::none())
 }
 
-/// What a change of rows answers, and its notes.
+/// Makes the reply and the change of an action from the result of a change of rows.
 fn answered(done: Result<Change, Refusal>) -> (RowReply, Change)
     ensures { result ≡ (done_reply done, notes_of done) }
 {
@@ -77,8 +77,8 @@ fn answered(done: Result<Change, Refusal>) -> (RowReply, Change)
 }
 
 impl<R: Rows> Part<R> {
-    /// Makes a part over rows that lie in its range and keep the rules of a book. It keeps the allocator. The range has
-    /// to be 1 <= lo < hi <= 16,777,217, the zones' width 1..=524,288.
+    /// Makes a part over rows that lie in its range and keep the rules of a book. It keeps the allocator. The range
+    /// must satisfy 1 <= lo < hi <= 16,777,217, and the zone width must be 1..=524,288.
     pub fn over(alloc: Global, rows: R, lo: u32, hi: u32, width: u32) -> Self
         requires range { IsRange lo hi }
         requires width { IsWidth width }
@@ -104,14 +104,14 @@ impl<R: Rows> Part<R> {
         }
     }
 
-    /// Tells how often actions asked the rows. A row that is lent is not counted.
+    /// Returns how often actions have asked the rows. A row that is lent is not counted.
     pub fn asked(&self) -> u64
         ensures { result ≡ self.now.asked }
     {
         self.rows.asked()
     }
 
-    /// The zone of a subscriber.
+    /// Returns the zone of a subscriber.
     pub(crate) fn zone_of(&self, s_id: u32) -> u8
         ensures value { result ≡ zone_of self.now.width s_id }
         ensures small { result < 32 }
@@ -119,7 +119,8 @@ impl<R: Rows> Part<R> {
         zone(s_id, self.width)
     }
 
-    /// The body of UPDATE_LOCATION, to a number that may be 0: `Field`, `NoSubscriber`.
+    /// Does UPDATE_LOCATION, by s_id, with a location that may be 0. Its refusals, in order, are `Field` and
+    /// `NoSubscriber`.
     fn update_any_location(&mut self, s_id: u32, vlr_location: u32) -> Result<Change, Refusal>
         requires { IsWithin self.old.lo self.old.hi s_id }
         ensures { Acts (Action.UpdateLocation s_id vlr_location)
@@ -131,10 +132,11 @@ impl<R: Rows> Part<R> {
         self.update_location(s_id, vlr_location)
     }
 
-    /// Does an action on the rows of one subscriber of the range: its answer, and by how much each cell moves.
+    /// Does an action on the rows of one subscriber in the range, and returns the reply, and the change of the cells.
     ///
-    /// `Memory` comes only in place of `Done` where a row is added. A number that another subscriber has is no
-    /// refusal here: whoever has all parts refuses it. After a refusal the rows are as before.
+    /// `Memory` comes only in place of `Done`, and only if a row is added. A number that another subscriber has is no
+    /// refusal here, because only the register knows all numbers, and refuses it. After a refusal the rows are as
+    /// before.
     pub fn act(&mut self, action: Action) -> (RowReply, Change)
         requires { IsWithin self.old.lo self.old.hi (s_id_of action) }
         ensures outcome { IsOutcome action self.old.book result.0 self.new.book }
@@ -189,8 +191,8 @@ impl<R: Rows> Part<R> {
 }
 
 impl Part {
-    /// Makes an empty part of the range lo..hi, with 1 <= lo < hi <= 16,777,217 and a width of 1..=524,288. Its empty
-    /// trees take no memory, so this is always `Ok`.
+    /// Makes an empty part of the range lo..hi, with 1 <= lo < hi <= 16,777,217 and a zone width of 1..=524,288. Its
+    /// empty trees take no memory, so this always returns `Ok`.
     pub fn new(alloc: Global, lo: u32, hi: u32, width: u32) -> Result<Self, Refusal>
         requires range { IsRange lo hi }
         requires width { IsWidth width }
@@ -208,21 +210,21 @@ impl Part {
         Ok(Part::over(alloc, Trees::new(alloc)?, lo, hi, width))
     }
 
-    /// Gives the first subscriber of the range, 1..=16,777,216.
+    /// Returns the first subscriber of the range, 1..=16,777,216.
     pub fn lo(&self) -> u32
         ensures { result ≡ self.now.lo }
     {
         self.lo
     }
 
-    /// Gives the end of the range: one past its last subscriber.
+    /// Returns the number behind the last subscriber of the range.
     pub fn hi(&self) -> u32
         ensures { result ≡ self.now.hi }
     {
         self.hi
     }
 
-    /// Gives the width of the zones, 1..=524,288.
+    /// Returns the zone width, 1..=524,288.
     pub fn width(&self) -> u32
         ensures value { result ≡ self.now.width }
         ensures rules { IsPart self.now }

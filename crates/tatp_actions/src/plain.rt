@@ -1,4 +1,4 @@
-//! The plain program of the definition: the rows of a part in sorted vectors, for tests.
+//! The rows of a part in sorted vectors, which are the plain program of the definition, for tests.
 ghost use Rattle.std.specs.Prelude.{◌≡◌, ℕ, ◌<◌, [], option_copied, ok_or, ⊤};
 ghost use Rattle.std.specs.Borrow.{sem, follows_so};
 ghost use Rattle.tatp_actions.specs.Heights.{zero_heights};
@@ -20,7 +20,7 @@ pub struct PlainRows {
 }
 
 impl PlainRows {
-    /// Makes rows with empty tables that have room for so many each, never asked.
+    /// Makes rows that were never asked, with empty tables that have room for so many rows each.
     pub fn new(alloc: Global, room: usize) -> Self
         ensures { result ≡ record { subscribers = []; access = []; facilities = []; forwardings = []; asked = 0 } }
     {
@@ -50,7 +50,7 @@ impl Rows for PlainRows {
 
     ghost times_asked = { λ t. t.asked };
 
-    // A table is no tree.
+    // A table has no tree, so its height is 0.
     ghost heights = { λ t. zero_heights };
 
     fn asked(&self) -> u64 {

@@ -1,4 +1,4 @@
-//! What a part holds, counted anew from its rows, and its first subscriber from one on.
+//! The counts of a part, made anew from its rows, and its first subscriber from an s_id on.
 ghost use Rattle.std.specs.Prelude.{◌≡◌, ℕ, ◌-◌, ◌<◌, ◌≤◌, true, slice_index, replicate, option_copied};
 ghost use Rattle.tatp_rows.specs.Rows.{forwarding_in_range};
 ghost use Rattle.tatp_rows.specs.Zones.{area_of};
@@ -14,9 +14,9 @@ use tatp_rows::{
     Facility, Forwarding, LAST_SUBSCRIBER, Subscriber, area, row_key, subscriber_key, zone,
 };
 
-/// The counts of the rows so far, by zones of a width and beside the facilities of a part. Rows come in key order, so
-/// the zone of the last subscriber, and whether the last facility that was asked for is active, serve the rows that
-/// follow.
+/// The counts of the rows so far, given a zone width and the facilities of a part. Rows come in the order of their
+/// keys. So the zone of the last subscriber, and whether the last facility that was asked for is active, can be used
+/// again for the rows that follow.
 #[derive(Drop)]
 pub(crate) struct Tally<'a> {
     cells: Cells,
@@ -40,7 +40,7 @@ impl<'a> Model for Tally<'a> {
     ghost invariant = { λ t. (t.zone ≡ zone_of t.width t.s_id) × (t.is_active ≡ is_active_at t.facility t.facilities.now.rows) };
 }
 
-/// Counts one more in a cell, where its count has room.
+/// Adds one to the count of a cell, if the count has room.
 fn count_with_room(cells: &mut Cells, cell: u8)
     requires { cell < CELLS }
     ensures { cells.new ≡ one_more_in cell cells.old }
@@ -50,7 +50,7 @@ fn count_with_room(cells: &mut Cells, cell: u8)
     }
 }
 
-/// Counts one more in each hour from one on up to another.
+/// Adds one to the count of each hour from one up to another. The second hour isn't included.
 fn count_hours(cells: &mut Cells, from: u8, to: u8)
     requires { to ≤ FIRST_AREA }
     ensures { cells.new ≡ one_more_from from (to - from) cells.old }
@@ -60,7 +60,7 @@ fn count_hours(cells: &mut Cells, from: u8, to: u8)
     }
 }
 
-/// Whether the facility at a key is there, and active.
+/// Returns whether there is a facility at a key, and it is active.
 fn is_active(facilities: &SubTree<Facility>, key: u64) -> bool
     ensures { result ≡ is_active_at key facilities.now.rows }
 {
@@ -71,7 +71,7 @@ fn is_active(facilities: &SubTree<Facility>, key: u64) -> bool
 }
 
 impl<'a> Tally<'a> {
-    /// No row counted yet.
+    /// Makes a tally in which no row is counted yet.
     pub(crate) fn zero(facilities: &'a SubTree<Facility>, width: u32) -> Self
         ensures { result ≡ record { cells = replicate CELLS 0; facilities = facilities.now.rows; width = width } }
     {
@@ -86,14 +86,15 @@ impl<'a> Tally<'a> {
         }
     }
 
-    /// The count of each cell.
+    /// Returns the count of each cell.
     pub(crate) fn cells(&self) -> Cells
         ensures { result ≡ self.now.cells }
     {
         self.cells
     }
 
-    /// Counts a row of a subscriber in the cell of its zone: all that a row of Access_Info or Special_Facility counts.
+    /// Counts a row of a subscriber in the cell of its zone, which is the only cell of a row of Access_Info or
+    /// Special_Facility.
     pub(crate) fn count_row(&mut self, s_id: u32)
         ensures { self.new ≡ record self.old { cells = with_row_of self.old.width s_id self.old.cells } }
     {
@@ -148,7 +149,8 @@ impl Part {
         tally.cells()
     }
 
-    /// Finds the first Subscriber row of the part from a subscriber on: `None` where there is none, as past 16,777,216.
+    /// Finds the first Subscriber row of the part whose s_id is this one or higher. It returns `None` if there is none,
+    /// for example past 16,777,216.
     pub fn first_sub_from(&self, s_id: u64) -> Option<&Subscriber>
         ensures { option_copied result ≡ first_subscriber s_id self.now.book.subscribers }
     {

@@ -1,11 +1,11 @@
-//! Changes of one field of a row where it lies.
+//! The changes of one field of a row, made where the row lies.
 ghost use Rattle.std.specs.Prelude.{◌≡◌, ◌≤◌, ◌==◌, slice_set, if◌then◌else◌};
 
 use mr_node::Revise;
 use std::marker::Model;
 use tatp_rows::{Facility, Number, Subscriber};
 
-/// Puts a location in place of a subscriber's, and has that one then.
+/// Exchanges a subscriber's location for another one, and keeps the old one.
 #[derive(Drop)]
 pub(crate) struct SwapLocation {
     vlr_location: u32,
@@ -22,7 +22,7 @@ impl Model for SwapLocation {
 }
 
 impl SwapLocation {
-    /// The swap that brings a location, at least 1.
+    /// Makes the swap that brings a location, which must be at least 1.
     pub(crate) fn to(vlr_location: u32) -> Self
         requires { 1 ≤ vlr_location }
         ensures { result ≡ vlr_location }
@@ -30,7 +30,7 @@ impl SwapLocation {
         SwapLocation { vlr_location }
     }
 
-    /// The location that it has.
+    /// Returns the location that the swap has.
     pub(crate) fn location(&self) -> u32
         ensures { result ≡ self.now }
     {
@@ -85,7 +85,7 @@ impl Model for SetBit1 {
 }
 
 impl SetBit1 {
-    /// The change to a bit, 0 or 1.
+    /// Makes the change to a bit, 0 or 1.
     pub(crate) fn to(bit_1: u8) -> Self
         requires { bit_1 ≤ 1 }
         ensures { result ≡ bit_1 }
@@ -120,7 +120,7 @@ impl Revise<Facility> for SetDataA {
     }
 }
 
-/// Switches a facility on or off, and has what it was then.
+/// Switches a facility on or off, and keeps whether it was active.
 #[derive(Drop)]
 pub(crate) struct SwapActive {
     pub(crate) is_active: bool,

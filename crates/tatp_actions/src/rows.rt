@@ -1,4 +1,4 @@
-//! What a part asks of its rows.
+//! The calls that a part makes on its rows.
 ghost use Rattle.std.specs.Prelude.{◌≡◌, ℕ, ◌+◌, ◌<◌, ◌≤◌, is_some, option_copied, ok_or, ⊤};
 ghost use Rattle.std.specs.Borrow.{sem, follows_so};
 ghost use mathlib.Core.Option.{none};
@@ -15,11 +15,13 @@ use tatp_rows::{Access, Back, Facility, Forwarding, Subscriber};
 /// The rows of a part, by key, and how often they were asked.
 ///
 /// Each of the four tables is seen as the list of its pairs (key, row). Each call is by key and raises `asked` by one
-/// (saturating), but for `revise_s` and `revise_f`, which may ask twice; so an action's cost is bounded by how often it
-/// asks. Sixteen calls are enough: those two are made of two others each, where a store has no better way.
+/// (saturating), except that `revise_s` and `revise_f` may ask twice. So the cost of an action is bounded by how often
+/// it asks. A store needs to have only sixteen calls: where it has no better way, those two are made of two of the
+/// others each.
 ///
-/// `heights` is how high the trees are that hold the rows. A call that reads leaves it. A read lends its row, so what
-/// it leaves (the same tables, asked once more) is said of the time when the row is given back: its clause `after`.
+/// `heights` is the height of the trees that hold the rows. A call that reads doesn't change it. A read lends its row,
+/// so its clause `after` says what it leaves, which is the same tables, asked once more, for the time when the row is
+/// given back.
 pub trait Rows {
     ghost tables: { Self → Tables };
 
@@ -27,7 +29,7 @@ pub trait Rows {
 
     ghost heights: { Self → Heights };
 
-    /// Tells how often the rows were asked.
+    /// Returns how often the rows were asked.
     fn asked(&self) -> u64
         ensures { result ≡ times_asked self.now };
 
@@ -38,14 +40,14 @@ pub trait Rows {
             × (heights rows ≡ heights self.old))) }
         ensures value { option_copied result ≡ value_at key (tables self.old).subscribers };
 
-    /// Replaces the Subscriber row at a key, and hands back the old one; where there is none, hands back the value.
+    /// Replaces the Subscriber row at a key, and hands back the old one; if there is none, hands back the value.
     fn replace_s(&mut self, key: u64, value: Subscriber) -> Result<Subscriber, Subscriber>
         ensures value { result ≡ ok_or (value_at key (tables self.old).subscribers) value }
         ensures rows { tables self.new ≡ record (tables self.old) { subscribers = with_row_at key_of_pair key (key, value) (tables self.old).subscribers } }
         ensures asked { times_asked self.new ≡ once_more (times_asked self.old) };
 
-    /// Changes the Subscriber row at a key where it lies: false where there is none. It may ask twice, as `get_s` and
-    /// `replace_s` do in its place.
+    /// Changes the Subscriber row at a key where it lies, and returns false if there is none. It may ask twice, because
+    /// the default calls `get_s` and `replace_s`.
     fn revise_s<E: Revise<Subscriber>>(&mut self, key: u64, revision: &mut E) -> bool
         ensures rows { tables self.new ≡ record (tables self.old) { subscribers = revised_at key (E.revised revision.old) (tables self.old).subscribers } }
         ensures spent { revision.new ≡ spent_at key E.spent revision.old (tables self.old).subscribers }
@@ -61,15 +63,15 @@ pub trait Rows {
         true
     }
 
-    /// Adds a Subscriber row. `Exists` where the key has a row, `Memory` where a growth was refused: then the rows
-    /// are as before, and the row is handed back.
+    /// Adds a Subscriber row. Its refusals, in order, are `Exists` if the key has a row, and `Memory` if the system
+    /// refuses memory, and then the rows are as before, and the row is handed back.
     fn insert_s(&mut self, key: u64, value: Subscriber) -> Result<(), Back<Subscriber>>
         requires { key < key_limit }
         ensures table { IsInserted key value (tables self.old).subscribers (tables self.new).subscribers result }
         ensures others { tables self.new ≡ record (tables self.old) { subscribers = (tables self.new).subscribers } }
         ensures asked { times_asked self.new ≡ once_more (times_asked self.old) };
 
-    /// Takes the Subscriber row at a key away, where there is one.
+    /// Removes the Subscriber row at a key, if there is one.
     fn remove_s(&mut self, key: u64) -> Option<Subscriber>
         ensures value { result ≡ value_at key (tables self.old).subscribers }
         ensures rows { tables self.new ≡ record (tables self.old) { subscribers = without_row key_of_pair key (tables self.old).subscribers } }
@@ -82,21 +84,21 @@ pub trait Rows {
             × (heights rows ≡ heights self.old))) }
         ensures value { option_copied result ≡ value_at key (tables self.old).access };
 
-    /// Replaces the Access_Info row at a key, and hands back the old one; where there is none, hands back the value.
+    /// Replaces the Access_Info row at a key, and hands back the old one; if there is none, hands back the value.
     fn replace_a(&mut self, key: u64, value: Access) -> Result<Access, Access>
         ensures value { result ≡ ok_or (value_at key (tables self.old).access) value }
         ensures rows { tables self.new ≡ record (tables self.old) { access = with_row_at key_of_pair key (key, value) (tables self.old).access } }
         ensures asked { times_asked self.new ≡ once_more (times_asked self.old) };
 
-    /// Adds an Access_Info row. `Exists` where the key has a row, `Memory` where a growth was refused: then the rows
-    /// are as before, and the row is handed back.
+    /// Adds an Access_Info row. Its refusals, in order, are `Exists` if the key has a row, and `Memory` if the system
+    /// refuses memory, and then the rows are as before, and the row is handed back.
     fn insert_a(&mut self, key: u64, value: Access) -> Result<(), Back<Access>>
         requires { key < key_limit }
         ensures table { IsInserted key value (tables self.old).access (tables self.new).access result }
         ensures others { tables self.new ≡ record (tables self.old) { access = (tables self.new).access } }
         ensures asked { times_asked self.new ≡ once_more (times_asked self.old) };
 
-    /// Takes the Access_Info row at a key away, where there is one.
+    /// Removes the Access_Info row at a key, if there is one.
     fn remove_a(&mut self, key: u64) -> Option<Access>
         ensures value { result ≡ value_at key (tables self.old).access }
         ensures rows { tables self.new ≡ record (tables self.old) { access = without_row key_of_pair key (tables self.old).access } }
@@ -109,15 +111,14 @@ pub trait Rows {
             × (heights rows ≡ heights self.old))) }
         ensures value { option_copied result ≡ value_at key (tables self.old).facilities };
 
-    /// Replaces the Special_Facility row at a key, and hands back the old one; where there is none, hands back the
-    /// value.
+    /// Replaces the Special_Facility row at a key, and hands back the old one; if there is none, hands back the value.
     fn replace_f(&mut self, key: u64, value: Facility) -> Result<Facility, Facility>
         ensures value { result ≡ ok_or (value_at key (tables self.old).facilities) value }
         ensures rows { tables self.new ≡ record (tables self.old) { facilities = with_row_at key_of_pair key (key, value) (tables self.old).facilities } }
         ensures asked { times_asked self.new ≡ once_more (times_asked self.old) };
 
-    /// Changes the Special_Facility row at a key where it lies: false where there is none. It may ask twice, as `get_f`
-    /// and `replace_f` do in its place.
+    /// Changes the Special_Facility row at a key where it lies, and returns false if there is none. It may ask twice,
+    /// because the default calls `get_f` and `replace_f`.
     fn revise_f<E: Revise<Facility>>(&mut self, key: u64, revision: &mut E) -> bool
         ensures rows { tables self.new ≡ record (tables self.old) { facilities = revised_at key (E.revised revision.old) (tables self.old).facilities } }
         ensures spent { revision.new ≡ spent_at key E.spent revision.old (tables self.old).facilities }
@@ -133,15 +134,15 @@ pub trait Rows {
         true
     }
 
-    /// Adds a Special_Facility row. `Exists` where the key has a row, `Memory` where a growth was refused: then the
-    /// rows are as before, and the row is handed back.
+    /// Adds a Special_Facility row. Its refusals, in order, are `Exists` if the key has a row, and `Memory` if the
+    /// system refuses memory, and then the rows are as before, and the row is handed back.
     fn insert_f(&mut self, key: u64, value: Facility) -> Result<(), Back<Facility>>
         requires { key < key_limit }
         ensures table { IsInserted key value (tables self.old).facilities (tables self.new).facilities result }
         ensures others { tables self.new ≡ record (tables self.old) { facilities = (tables self.new).facilities } }
         ensures asked { times_asked self.new ≡ once_more (times_asked self.old) };
 
-    /// Takes the Special_Facility row at a key away, where there is one.
+    /// Removes the Special_Facility row at a key, if there is one.
     fn remove_f(&mut self, key: u64) -> Option<Facility>
         ensures value { result ≡ value_at key (tables self.old).facilities }
         ensures rows { tables self.new ≡ record (tables self.old) { facilities = without_row key_of_pair key (tables self.old).facilities } }
@@ -154,22 +155,21 @@ pub trait Rows {
             × (heights rows ≡ heights self.old))) }
         ensures value { option_copied result ≡ value_at key (tables self.old).forwardings };
 
-    /// Replaces the Call_Forwarding row at a key, and hands back the old one; where there is none, hands back the
-    /// value.
+    /// Replaces the Call_Forwarding row at a key, and hands back the old one; if there is none, hands back the value.
     fn replace_c(&mut self, key: u64, value: Forwarding) -> Result<Forwarding, Forwarding>
         ensures value { result ≡ ok_or (value_at key (tables self.old).forwardings) value }
         ensures rows { tables self.new ≡ record (tables self.old) { forwardings = with_row_at key_of_pair key (key, value) (tables self.old).forwardings } }
         ensures asked { times_asked self.new ≡ once_more (times_asked self.old) };
 
-    /// Adds a Call_Forwarding row. `Exists` where the key has a row, `Memory` where a growth was refused: then the rows
-    /// are as before, and the row is handed back.
+    /// Adds a Call_Forwarding row. Its refusals, in order, are `Exists` if the key has a row, and `Memory` if the
+    /// system refuses memory, and then the rows are as before, and the row is handed back.
     fn insert_c(&mut self, key: u64, value: Forwarding) -> Result<(), Back<Forwarding>>
         requires { key < key_limit }
         ensures table { IsInserted key value (tables self.old).forwardings (tables self.new).forwardings result }
         ensures others { tables self.new ≡ record (tables self.old) { forwardings = (tables self.new).forwardings } }
         ensures asked { times_asked self.new ≡ once_more (times_asked self.old) };
 
-    /// Takes the Call_Forwarding row at a key away, where there is one.
+    /// Removes the Call_Forwarding row at a key, if there is one.
     fn remove_c(&mut self, key: u64) -> Option<Forwarding>
         ensures value { result ≡ value_at key (tables self.old).forwardings }
         ensures rows { tables self.new ≡ record (tables self.old) { forwardings = without_row key_of_pair key (tables self.old).forwardings } }

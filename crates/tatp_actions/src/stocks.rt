@@ -1,4 +1,4 @@
-//! The blank nodes that a cut or a join of the four trees takes, all of them taken ahead.
+//! The blank nodes that a cut or a join of the four trees uses, all of them taken ahead.
 ghost use Rattle.std.specs.Prelude.{◌≡◌, MatchResult, OnOk, length};
 ghost use Rattle.mr_subtree.specs.Trees.{IsHeightOf};
 ghost use Rattle.tatp_actions.specs.Cut.{AreHeightsOf};
@@ -22,7 +22,7 @@ pub(crate) struct Stocks {
 }
 
 impl Stocks {
-    /// The blank nodes for a slice of these trees: `Memory` where they can't be had.
+    /// Takes the blank nodes for a slice of these trees. It returns `Memory` if the system refuses memory for them.
     pub(crate) fn for_slice(alloc: Global, rows: &Trees) -> Result<Self, Refusal>
         ensures stocks { MatchResult result (λ stocks. AreForSlice (heights_of rows.now) stocks) (λ why. why ≡ Refusal.Memory) }
         ensures heights { OnOk result (AreHeightsOf (heights_of rows.now) (stored_book (tables_of rows.now))) }
@@ -35,7 +35,7 @@ impl Stocks {
         })
     }
 
-    /// The blank nodes for a meld of these trees: `Memory` where they can't be had.
+    /// Takes the blank nodes for a meld of these trees. It returns `Memory` if the system refuses memory for them.
     pub(crate) fn for_meld(alloc: Global, rows: &Trees, other: &Trees) -> Result<Self, Refusal>
         ensures stocks { MatchResult result (λ stocks. AreForMeld (heights_of rows.now) (heights_of other.now) stocks) (λ why. why ≡ Refusal.Memory) }
         ensures heights { OnOk result (AreHeightsOf (heights_of rows.now) (stored_book (tables_of rows.now))) }
@@ -50,7 +50,7 @@ impl Stocks {
     }
 }
 
-/// The blank nodes for a meld of two trees: `Memory` where they can't be had.
+/// Takes the blank nodes for a meld of two trees. It returns `Memory` if the system refuses memory for them.
 fn meld_stock<V: Drop + Default>(
     alloc: Global,
     tree: &SubTree<V>,

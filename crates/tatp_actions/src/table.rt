@@ -1,4 +1,4 @@
-//! A table of rows over a sorted vector: the plain program that tests compare the trees with.
+//! A table of rows over a sorted vector, which is the plain program that tests compare the trees with.
 ghost use Rattle.std.specs.Prelude.{◌≡◌, ℕ, ◌+◌, ◌<◌, [], ◌∷◌, List, length, Option, Some, None, nat_lt, ◌≤◌, IsSome, IsNone, IsErrAnd, IfOk, IfErr, OnOk, OnErr, option_copied, ok_or};
 ghost use Rattle.std.specs.List.{prefix_len};
 ghost use Rattle.tatp_rows.specs.Ordered.{IsOrderedBy, row_at, with_row_at, with_row, without_row};
@@ -44,7 +44,7 @@ impl<V> Table<V> {
         }
     }
 
-    /// How many entries have a key below this one: where its entry is, or would be.
+    /// Returns how many entries have a lower key than this one, which is where its entry is, or would be.
     fn place_of(&self, key: u64) -> usize
         ensures place { result ≡ prefix_len (λ pair. nat_lt pair.0 key) self.now }
         ensures within { result ≤ length self.now }
@@ -62,7 +62,7 @@ impl<V> Table<V> {
         if entry.0 == key { Some(&entry.1) } else { None }
     }
 
-    /// Replaces the value at a key, and hands back the old one; where there is none, hands back the value.
+    /// Replaces the value at a key, and hands back the old one; if there is none, hands back the value.
     pub fn replace(&mut self, key: u64, value: V) -> Result<V, V>
         ensures value { result ≡ ok_or (value_at key self.old) value }
         ensures rows { self.new ≡ with_row_at key_of_pair key (key, value) self.old }
@@ -74,8 +74,8 @@ impl<V> Table<V> {
         Ok(mem::replace(&mut self.entries[at].1, value))
     }
 
-    /// Adds an entry. `Exists` where the key has one, `Memory` where there is no room: then the table is as before,
-    /// and the value is handed back.
+    /// Adds an entry. Its refusals, in order, are `Exists` if the key has one, and `Memory` if there is no room, and
+    /// then the table is as before, and the value is handed back.
     pub fn insert(&mut self, key: u64, value: V) -> Result<(), Back<V>>
         requires { key < key_limit }
         ensures { IsInserted key value self.old self.new result }
@@ -102,7 +102,7 @@ impl<V> Table<V> {
         }
     }
 
-    /// Takes the entry at a key away, where there is one.
+    /// Removes the entry at a key, if there is one.
     pub fn remove(&mut self, key: u64) -> Option<V>
         ensures value { result ≡ value_at key self.old }
         ensures rows { self.new ≡ without_row key_of_pair key self.old }

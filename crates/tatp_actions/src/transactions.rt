@@ -17,7 +17,7 @@ use std::num::NonZeroU32;
 use tatp_rows::{Forwarding, Refusal, is_between, is_start_time};
 
 impl<R: Rows> Part<R> {
-    /// Does GET_SUBSCRIBER_DATA: `NoSubscriber`.
+    /// Does GET_SUBSCRIBER_DATA. It returns `NoSubscriber` if there is no such subscriber.
     pub(crate) fn subscriber_data(&mut self, s_id: u32) -> (RowReply, Change)
         requires { IsWithin self.old.lo self.old.hi s_id }
         ensures { Acts (Action.SubscriberData s_id) self.old result.0 result.1 self.new }
@@ -28,7 +28,7 @@ impl<R: Rows> Part<R> {
         (RowReply::Row(row), Change::none())
     }
 
-    /// Does GET_NEW_DESTINATION: `Field`, `NoDestination`.
+    /// Does GET_NEW_DESTINATION. Its refusals, in order, are `Field` and `NoDestination`.
     pub(crate) fn new_destination(
         &mut self,
         s_id: u32,
@@ -54,7 +54,7 @@ impl<R: Rows> Part<R> {
         (RowReply::Numbers(numbers), Change::none())
     }
 
-    /// Does GET_ACCESS_DATA: `Field`, `NoAccess`.
+    /// Does GET_ACCESS_DATA. Its refusals, in order, are `Field` and `NoAccess`.
     pub(crate) fn access_data(&mut self, s_id: u32, ai_type: u8) -> (RowReply, Change)
         requires { IsWithin self.old.lo self.old.hi s_id }
         ensures { Acts (Action.AccessData s_id ai_type) self.old result.0 result.1 self.new }
@@ -74,7 +74,7 @@ impl<R: Rows> Part<R> {
         (reply, Change::none())
     }
 
-    /// Does UPDATE_SUBSCRIBER_DATA: `Field`, `NoSubscriber`, `NoFacility`.
+    /// Does UPDATE_SUBSCRIBER_DATA. Its refusals, in order, are `Field`, `NoSubscriber`, and `NoFacility`.
     #[inline(always)]
     pub(crate) fn update_subscriber(
         &mut self,
@@ -93,13 +93,13 @@ impl<R: Rows> Part<R> {
         if !self.revise_facility(s_id, sf_type, &mut data) {
             return Err(self.without_facility(s_id));
         }
-        // A facility has a subscriber.
+        // A facility has a subscriber, so this row is there.
         let mut bit = SetBit1::to(bit_1);
         let _ = self.revise_subscriber(s_id, &mut bit);
         Ok(Change::none())
     }
 
-    /// Why a facility can't be found, for a subscriber that has none of its type.
+    /// Returns the reason why a facility can't be found, if the subscriber has none of its type.
     #[cold]
     #[inline(never)]
     fn without_facility(&mut self, s_id: u32) -> Refusal
@@ -114,7 +114,7 @@ impl<R: Rows> Part<R> {
         }
     }
 
-    /// The body of UPDATE_LOCATION: `NoSubscriber`.
+    /// Does UPDATE_LOCATION, by s_id. It returns `NoSubscriber` if there is no such subscriber.
     #[inline(always)]
     pub(crate) fn update_location(
         &mut self,
@@ -134,7 +134,7 @@ impl<R: Rows> Part<R> {
         Ok(change)
     }
 
-    /// The body of INSERT_CALL_FORWARDING: `NoFacility`, `Exists`, `Memory`.
+    /// Does INSERT_CALL_FORWARDING, by s_id. Its refusals, in order, are `NoFacility`, `Exists`, and `Memory`.
     #[inline(always)]
     pub(crate) fn insert_forwarding(&mut self, row: Forwarding) -> Result<Change, Refusal>
         requires { IsWithin self.old.lo self.old.hi row.s_id }
@@ -150,7 +150,7 @@ impl<R: Rows> Part<R> {
         Ok(change)
     }
 
-    /// The body of DELETE_CALL_FORWARDING: `Field`, `NoForwarding`.
+    /// Does DELETE_CALL_FORWARDING, by s_id. Its refusals, in order, are `Field` and `NoForwarding`.
     #[inline(always)]
     pub(crate) fn delete_forwarding(
         &mut self,

@@ -9,7 +9,7 @@ use mr_subtree::SubTree;
 use std::alloc::Global;
 use tatp_rows::{Access, Back, Facility, Forwarding, Refusal, Subscriber};
 
-/// The keys of two subscribers that follow one another are 2^16 apart.
+/// The keys of two successive subscribers are 2^16 apart.
 pub(crate) const KEY_SHIFT: u32 = 16;
 
 /// The rows of a part, each of the four tables in a tree of its own, and how often they were asked.
@@ -22,7 +22,7 @@ pub struct Trees {
     pub(crate) asked: u64,
 }
 
-/// A tree without rows.
+/// Makes a tree without rows.
 fn empty<V: Default>(alloc: Global) -> SubTree<V>
     ensures rows { result.rows ≡ [] }
     ensures height { result.height ≡ 0 }
@@ -34,7 +34,7 @@ fn empty<V: Default>(alloc: Global) -> SubTree<V>
 }
 
 impl Trees {
-    /// Makes rows with empty trees, never asked. An empty tree takes no memory, so this is always `Ok`.
+    /// Makes rows with empty trees, never asked. An empty tree takes no memory, so this always returns `Ok`.
     pub fn new(alloc: Global) -> Result<Self, Refusal>
         ensures subscribers { IfOk result (λ t. (t.subscribers.rows ≡ []) × (t.subscribers.height ≡ 0)) }
         ensures access { IfOk result (λ t. (t.access.rows ≡ []) × (t.access.height ≡ 0)) }

@@ -75,7 +75,7 @@ impl Default for Access {
 }
 
 impl Access {
-    /// Makes the row with these fields, in TATP's order; `Field` where one is out of its range: s_id 1..=16,777,216,
+    /// Makes the row with these fields, in TATP's order; `Field` if one is lent of its range: s_id 1..=16,777,216,
     /// ai_type 1..=4.
     pub fn try_new(
         s_id: u64,
@@ -109,7 +109,7 @@ impl Access {
         })
     }
 
-    /// Gives the row's key.
+    /// Returns the row's key.
     pub fn key(&self) -> u64
         ensures key { result ≡ access_key self.now }
         ensures in_range { IsTrue (access_in_range self.now) }
@@ -117,7 +117,7 @@ impl Access {
         row_key(self.s_id, self.ai_type, 0)
     }
 
-    /// Gives the subscriber, 1..=16,777,216.
+    /// Returns the subscriber, 1..=16,777,216.
     pub fn s_id(&self) -> u32
         ensures value { result ≡ self.now.s_id }
         ensures in_range { IsTrue (access_in_range self.now) }
@@ -125,7 +125,7 @@ impl Access {
         self.s_id
     }
 
-    /// Gives the type of the access, 1..=4.
+    /// Returns the type of the access, 1..=4.
     pub fn ai_type(&self) -> u8
         ensures { result ≡ self.now.ai_type }
     {

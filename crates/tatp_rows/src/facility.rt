@@ -75,7 +75,7 @@ impl Default for Facility {
 }
 
 impl Facility {
-    /// Makes the row with these fields, in TATP's order; `Field` where one is out of its range: s_id 1..=16,777,216,
+    /// Makes the row with these fields, in TATP's order; `Field` if one is lent of its range: s_id 1..=16,777,216,
     /// sf_type 1..=4, is_active 0..=1.
     pub fn try_new(
         s_id: u64,
@@ -111,7 +111,7 @@ impl Facility {
         })
     }
 
-    /// Gives the row with is_active 1 or 0.
+    /// Returns the row with is_active 1 or 0.
     pub fn with_is_active(self, is_active: bool) -> Self
         ensures { result ≡ record self { is_active = if is_active then 1 else 0 } }
     {
@@ -121,14 +121,14 @@ impl Facility {
         }
     }
 
-    /// Gives the row with another data_a.
+    /// Returns the row with another data_a.
     pub fn with_data_a(self, data_a: u8) -> Self
         ensures { result ≡ record self { data_a = data_a } }
     {
         Facility { data_a, ..self }
     }
 
-    /// Gives the row's key.
+    /// Returns the row's key.
     pub fn key(&self) -> u64
         ensures key { result ≡ facility_key self.now }
         ensures in_range { IsTrue (facility_in_range self.now) }
@@ -136,7 +136,7 @@ impl Facility {
         row_key(self.s_id, self.sf_type, 0)
     }
 
-    /// Gives the subscriber, 1..=16,777,216.
+    /// Returns the subscriber, 1..=16,777,216.
     pub fn s_id(&self) -> u32
         ensures value { result ≡ self.now.s_id }
         ensures in_range { IsTrue (facility_in_range self.now) }
@@ -144,14 +144,14 @@ impl Facility {
         self.s_id
     }
 
-    /// Gives the type of the facility, 1..=4.
+    /// Returns the type of the facility, 1..=4.
     pub fn sf_type(&self) -> u8
         ensures { result ≡ self.now.sf_type }
     {
         self.sf_type
     }
 
-    /// Tells whether is_active is 1.
+    /// Returns whether is_active is 1.
     pub fn is_active(&self) -> bool
         ensures { result ≡ (self.now.is_active == 1) }
     {

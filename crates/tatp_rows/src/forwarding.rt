@@ -69,7 +69,7 @@ impl Default for Forwarding {
 }
 
 impl Forwarding {
-    /// Makes the row with these fields, in TATP's order; `Field` where one is out of its range: s_id 1..=16,777,216,
+    /// Makes the row with these fields, in TATP's order; `Field` if one is lent of its range: s_id 1..=16,777,216,
     /// sf_type 1..=4, start_time 0, 8 or 16, end_time 1..=24. The end may lie before the start.
     pub fn try_new(
         s_id: u64,
@@ -103,7 +103,7 @@ impl Forwarding {
         })
     }
 
-    /// Gives the row's key.
+    /// Returns the row's key.
     pub fn key(&self) -> u64
         ensures key { result ≡ forwarding_key self.now }
         ensures in_range { IsTrue (forwarding_in_range self.now) }
@@ -111,7 +111,7 @@ impl Forwarding {
         row_key(self.s_id, self.sf_type, self.start_time)
     }
 
-    /// Gives the subscriber, 1..=16,777,216.
+    /// Returns the subscriber, 1..=16,777,216.
     pub fn s_id(&self) -> u32
         ensures value { result ≡ self.now.s_id }
         ensures in_range { IsTrue (forwarding_in_range self.now) }
@@ -119,28 +119,28 @@ impl Forwarding {
         self.s_id
     }
 
-    /// Gives the type of the facility, 1..=4.
+    /// Returns the type of the facility, 1..=4.
     pub fn sf_type(&self) -> u8
         ensures { result ≡ self.now.sf_type }
     {
         self.sf_type
     }
 
-    /// Gives the hour from which calls are forwarded: 0, 8 or 16.
+    /// Returns the hour from which calls are forwarded: 0, 8 or 16.
     pub fn start_time(&self) -> u8
         ensures { result ≡ self.now.start_time }
     {
         self.start_time
     }
 
-    /// Gives the hour at which that ends, 1..=24.
+    /// Returns the hour at which that ends, 1..=24.
     pub fn end_time(&self) -> u8
         ensures { result ≡ self.now.end_time }
     {
         self.end_time
     }
 
-    /// Gives the number that calls are forwarded to.
+    /// Returns the number that calls are forwarded to.
     pub fn numberx(&self) -> Number
         ensures { result ≡ self.now.numberx }
     {

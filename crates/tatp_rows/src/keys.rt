@@ -2,14 +2,14 @@
 ghost use Rattle.std.specs.Prelude.{◌≡◌};
 ghost use Rattle.tatp_rows.specs.Keys.{key_of};
 
-/// Gives the key of the row with this s_id, type and start time; the parts that a table lacks are 0.
+/// Returns the key of the row with this s_id, type and start time; the parts that a table lacks are 0.
 pub fn row_key(s_id: u32, kind: u8, start_time: u8) -> u64
     ensures { result ≡ key_of s_id kind start_time }
 {
     u64::from(s_id) * 65_536 + u64::from(kind) * 256 + u64::from(start_time)
 }
 
-/// Gives the key of the Subscriber row with this s_id.
+/// Returns the key of the Subscriber row with this s_id.
 pub fn subscriber_key(s_id: u32) -> u64
     ensures { result ≡ key_of s_id 0 0 }
 {

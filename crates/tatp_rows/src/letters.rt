@@ -34,7 +34,7 @@ impl<const N: usize> Default for Letters<N> {
 }
 
 impl<const N: usize> Letters<N> {
-    /// Makes the letters with these bytes; `Field` where one isn't one of A to Z.
+    /// Makes the letters with these bytes; `Field` if one isn't one of A to Z.
     pub fn try_new(bytes: [u8; N]) -> Result<Self, Refusal>
         ensures { result ≡ letters_in N bytes.entry }
     {
@@ -44,7 +44,7 @@ impl<const N: usize> Letters<N> {
         Ok(Letters { bytes })
     }
 
-    /// Reads exactly `N` ASCII letters A to Z; `Field` where the text is anything else.
+    /// Reads exactly `N` ASCII letters A to Z; `Field` if the text is anything else.
     pub fn from_bytes(text: &[u8]) -> Result<Self, Refusal>
         ensures { result ≡ letters_in N text.now }
     {
@@ -54,7 +54,7 @@ impl<const N: usize> Letters<N> {
         Letters::try_new(bytes)
     }
 
-    /// Gives the letters, each 65..=90.
+    /// Returns the letters, each 65..=90.
     pub fn bytes(&self) -> [u8; N]
         ensures value { result ≡ self.now }
         ensures in_range { AreLetters N result }

@@ -27,7 +27,7 @@ impl Model for Number {
     ghost inverse = { λ n. record { value = n } };
 }
 
-/// Whether eight bytes are ASCII digits.
+/// Returns whether eight bytes are ASCII digits.
 #[inline(always)]
 fn are_digits(bytes: u8x8) -> bool
     ensures { result ≡ list_all is_ascii_digit bytes }
@@ -38,7 +38,7 @@ fn are_digits(bytes: u8x8) -> bool
         == 0
 }
 
-/// The number that eight ASCII digits spell. As a word they are joined by twos, then by fours, then all.
+/// Returns the number that eight ASCII digits spell. As a word they are joined by twos, then by fours, then all.
 #[inline(always)]
 fn eight_digits(text: [u8; 8]) -> u64
     requires { list_all is_ascii_digit text ≡ true }
@@ -51,7 +51,7 @@ fn eight_digits(text: [u8; 8]) -> u64
 }
 
 impl Number {
-    /// Makes the number of this value; `Field` where it has more than 15 digits.
+    /// Makes the number of this value; `Field` if it has more than 15 digits.
     pub fn try_new(value: u64) -> Result<Self, Refusal>
         ensures { result ≡ number_of value }
     {
@@ -62,7 +62,7 @@ impl Number {
         }
     }
 
-    /// Reads exactly 15 ASCII digits; `Field` where the text is anything else.
+    /// Reads exactly 15 ASCII digits; `Field` if the text is anything else.
     pub fn from_digits(text: &[u8]) -> Result<Self, Refusal>
         ensures { result ≡ number_in text.now }
     {
@@ -80,7 +80,7 @@ impl Number {
         Ok(Number { value })
     }
 
-    /// Gives the number's value, below 10^15.
+    /// Returns the number's value, below 10^15.
     pub fn value(self) -> u64
         ensures value { result ≡ self }
         ensures in_range { IsNumber result }

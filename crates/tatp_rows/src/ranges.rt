@@ -15,7 +15,7 @@ pub const GREATEST_WIDTH: u32 = 524_288;
 
 const _: () = prove!(GREATEST_WIDTH == 524_288);
 
-/// Gives the value, where it lies in 1..=`high`; else `Field`.
+/// Returns the value, where it lies in 1..=`high`; else `Field`.
 pub fn in_range(value: u64, high: u32) -> Result<u32, Refusal>
     ensures { result ≡ between 1 high value }
 {
@@ -25,28 +25,28 @@ pub fn in_range(value: u64, high: u32) -> Result<u32, Refusal>
     Ok(value as u32)
 }
 
-/// Gives the value as a byte, where it lies in 1..=`high`; else `Field`.
+/// Returns the value as a byte, where it lies in 1..=`high`; else `Field`.
 pub fn byte_in_range(value: u64, high: u8) -> Result<u8, Refusal>
     ensures { result ≡ between 1 high value }
 {
     Ok(in_range(value, u32::from(high))? as u8)
 }
 
-/// Tells whether a value lies in `low`..=`high`.
+/// Returns whether a value lies in `low`..=`high`.
 pub fn is_between(value: u8, low: u8, high: u8) -> bool
     ensures { result ≡ is_between low high value }
 {
     low <= value && value <= high
 }
 
-/// Tells whether a forwarding may start at an hour: at 0, 8 or 16.
+/// Returns whether a forwarding may start at an hour: at 0, 8 or 16.
 pub fn is_start_time(hour: u64) -> bool
     ensures { result ≡ is_start_time hour }
 {
     hour == 0 || hour == 8 || hour == 16
 }
 
-/// Tells whether each of the values lies in `low`..=`high`.
+/// Returns whether each of the values lies in `low`..=`high`.
 pub fn all_between<const N: usize>(values: &[u8; N], low: u8, high: u8) -> bool
     ensures { result ≡ are_between N low high values.now }
 {

@@ -27,7 +27,7 @@ pub enum Refusal {
     Exists,
     /// Another subscriber has the number.
     NumberTaken,
-    /// The s_id lies in a loose piece; of a re-cut: a piece is loose.
+    /// The s_id lies in a loose piece; of a recut: a piece is loose.
     Moving,
     /// No part has the number.
     NoPart,
@@ -54,7 +54,7 @@ pub enum Refusal {
 }
 
 impl Refusal {
-    /// Gives the number of the refusal in the replies, 1..=22.
+    /// Returns the number of the refusal in the replies, 1..=22.
     pub fn code(self) -> u8
         ensures { result ≡ code_of self }
     {
@@ -84,7 +84,7 @@ impl Refusal {
         }
     }
 
-    /// Gives the name of the refusal in the replies, at most 13 letters.
+    /// Returns the name of the refusal in the replies, at most 13 letters.
     pub fn name(self) -> &'static str
         ensures { result.now ≡ name_of self }
     {

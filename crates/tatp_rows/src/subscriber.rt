@@ -89,7 +89,7 @@ fn pack(digits: &[u8; 10], base: u64) -> u64
     value
 }
 
-/// The ten digits to a base that are packed in a number.
+/// Returns the ten digits to a base that are packed in a number.
 #[inline(always)]
 fn unpack(value: u64, base: u64) -> [u8; 10]
     requires { (2 ≤ base) × (base ≤ 16) }
@@ -130,8 +130,8 @@ impl Default for Subscriber {
 }
 
 impl Subscriber {
-    /// Makes the row with these fields, in TATP's order; `Field` where one is out of its range: s_id 1..=16,777,216,
-    /// bits 0..=1, hexes 0..=15, both locations 1..=4,294,967,295.
+    /// Makes the row with these fields, in TATP's order; `Field` if one is lent of its range: s_id 1..=16,777,216, bits
+    /// 0..=1, hexes 0..=15, both locations 1..=4,294,967,295.
     pub fn try_new(
         s_id: u64,
         sub_nbr: Number,
@@ -173,7 +173,7 @@ impl Subscriber {
         })
     }
 
-    /// Gives the row with another location.
+    /// Returns the row with another location.
     pub fn with_vlr_location(self, vlr_location: u32) -> Self
         requires { 1 ≤ vlr_location }
         ensures { result ≡ record self { vlr_location = vlr_location } }
@@ -184,7 +184,7 @@ impl Subscriber {
         }
     }
 
-    /// Gives the row with another bit_1, 0 or 1.
+    /// Returns the row with another bit_1, 0 or 1.
     pub fn with_bit_1(self, bit_1: u8) -> Self
         requires { bit_1 ≤ 1 }
         ensures { result ≡ record self { bits = slice_set self.bits 0 bit_1 } }
@@ -193,7 +193,7 @@ impl Subscriber {
         Subscriber { bits, ..self }
     }
 
-    /// Gives the row with another number.
+    /// Returns the row with another number.
     pub fn with_sub_nbr(self, sub_nbr: Number) -> Self
         ensures { result ≡ record self { sub_nbr = sub_nbr } }
     {
@@ -202,7 +202,7 @@ impl Subscriber {
         Subscriber { sub_nbr, ..self }
     }
 
-    /// Gives the row's key.
+    /// Returns the row's key.
     pub fn key(&self) -> u64
         ensures key { result ≡ subscriber_key self.now }
         ensures in_range { IsTrue (subscriber_in_range self.now) }
@@ -210,7 +210,7 @@ impl Subscriber {
         keys::subscriber_key(self.s_id)
     }
 
-    /// Gives the subscriber, 1..=16,777,216.
+    /// Returns the subscriber, 1..=16,777,216.
     pub fn s_id(&self) -> u32
         ensures value { result ≡ self.now.s_id }
         ensures in_range { IsTrue (subscriber_in_range self.now) }
@@ -218,7 +218,7 @@ impl Subscriber {
         self.s_id
     }
 
-    /// Gives the subscriber's number.
+    /// Returns the subscriber's number.
     pub fn sub_nbr(&self) -> Number
         ensures { result ≡ self.now.sub_nbr }
     {
@@ -246,14 +246,14 @@ impl Subscriber {
         self.bytes
     }
 
-    /// Gives the location of the mobile switching centre, at least 1.
+    /// Returns the location of the mobile switching centre, at least 1.
     pub fn msc_location(&self) -> u32
         ensures { result ≡ self.now.msc_location }
     {
         self.msc_location
     }
 
-    /// Gives the location of the visitor location register, at least 1.
+    /// Returns the location of the visitor location register, at least 1.
     pub fn vlr_location(&self) -> u32
         ensures { result ≡ self.now.vlr_location }
     {

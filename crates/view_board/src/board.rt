@@ -36,8 +36,8 @@ impl Model for Board {
 }
 
 impl Board {
-    /// Opens a board of these words, and a desk that owns all of it. `Field` where a word passes `LIMIT`, else `Memory`
-    /// where a growth was refused.
+    /// Opens a board of these words, and a desk that owns all of it. It returns `Field` if a word passes `LIMIT`, else
+    /// `Memory` if the system refuses memory.
     pub fn open(alloc: Global, words: &[u64; WORDS]) -> Result<(Board, Desk), Refusal>
         ensures ok { IfOk result (λ opened. AreSmall words.now × (opened.1.board ≡ opened.0) × (opened.1.view ≡ first_view words.now)) }
         ensures err { IfErr result (λ why. ((why ≡ Refusal.Field) × HasGreat words.now) ⊎ ((why ≡ Refusal.Memory) × AreSmall words.now)) }
@@ -61,7 +61,8 @@ impl Board {
 
     /// Raises the plus-word of an own slot and a cell below `CELLS` by a positive amount, or its minus-word by the size
     /// of a negative one, in one step, so that no look sees a part of the amount; an amount of 0 raises nothing, in no
-    /// step. `Worn` exactly where the word would pass `LIMIT`, as by the least `i64` always: then nothing is changed.
+    /// step. `Worn` exactly where the word would pass `LIMIT`, as by the least `i64` always, and then nothing has
+    /// changed.
     pub fn add(&self, desk: &mut Desk, slot: u8, cell: u8, amount: i64) -> Result<(), Refusal>
         requires board { desk.old.board ≡ self.now }
         requires own { Owns desk.old.view slot }
@@ -142,7 +143,8 @@ impl Board {
     }
 
     /// Splits an own slot off: a new desk owns it, and has seen what this one has seen. It may be the last one; a desk
-    /// with no slot can still look and join. `Memory` where a growth was refused: then nothing is changed.
+    /// with no slot can still look and join. It returns `Memory` if the system refuses memory, and then nothing has
+    /// changed.
     pub fn split(&self, desk: &mut Desk, slot: u8) -> Result<Desk, Refusal>
         requires board { desk.old.board ≡ self.now }
         requires own { Owns desk.old.view slot }

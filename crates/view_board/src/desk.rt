@@ -29,14 +29,14 @@ impl Model for Desk {
 }
 
 impl Desk {
-    /// Tells whether the slot is the desk's; one past the last is nobody's.
+    /// Returns whether the slot is the desk's; one past the last is nobody's.
     pub fn owns(&self, slot: u8) -> bool
         ensures { IsTrue result ↔ Owns self.now.view slot }
     {
         slot < SLOTS && self.owned[usize::from(slot)]
     }
 
-    /// Gives the least slot of the desk, or `None` where it owns none.
+    /// Returns the least slot of the desk, or `None` if it owns none.
     pub fn least_slot(&self) -> Option<u8>
         ensures least { IfSome result (λ slot. (slot < SLOTS) × IsLeastSlot self.now.view slot) }
         ensures none { result ≡ None → (slot : ℕ) → Owns self.now.view slot → ⊥ }
@@ -51,8 +51,8 @@ impl Desk {
         None
     }
 
-    /// Gives what the desk has published of a cell below `CELLS`: the sum over its slots of their plus-words less their
-    /// minus-words.
+    /// Returns what the desk has published of a cell below `CELLS`: the sum over its slots of their plus-words less
+    /// their minus-words.
     #[inline(always)]
     pub fn net(&self, cell: u8) -> i128
         requires { cell < CELLS }
@@ -64,7 +64,7 @@ impl Desk {
         net_over(&self.owned, &self.numbers, cell)
     }
 
-    /// Gives what the desk has published of each cell, in one walk over its slots.
+    /// Returns what the desk has published of each cell, in one walk over its slots.
     pub fn nets(&self) -> [i128; CELLS as usize]
         ensures wide { IsWide self.now.view }
         ensures value { (c : ℕ) → c < CELLS → slice_index_or result c (pos 0) ≡ net_of self.now.view c }
@@ -104,7 +104,7 @@ impl Desk {
     }
 }
 
-/// The sum of the nets in a cell of the slots whose flag is up.
+/// Returns the sum of the nets in a cell of the slots whose flag is up.
 #[inline(always)]
 pub(crate) fn net_over(owned: &[bool; SLOTS as usize], numbers: &[u64; WORDS], cell: u8) -> i128
     requires { cell < CELLS }
@@ -119,7 +119,7 @@ pub(crate) fn net_over(owned: &[bool; SLOTS as usize], numbers: &[u64; WORDS], c
     sum
 }
 
-/// The net of a slot in a cell, or 0 where its flag isn't up.
+/// Returns the net of a slot in a cell, or 0 where its flag isn't up.
 #[inline(always)]
 fn own_net(owned: &[bool; SLOTS as usize], numbers: &[u64; WORDS], slot: u8, cell: u8) -> i128
     requires slot { slot < SLOTS }
@@ -134,7 +134,7 @@ fn own_net(owned: &[bool; SLOTS as usize], numbers: &[u64; WORDS], slot: u8, cel
     net_in(numbers, slot, cell)
 }
 
-/// The net of a slot in a cell.
+/// Returns the net of a slot in a cell.
 #[inline(always)]
 fn net_in(numbers: &[u64; WORDS], slot: u8, cell: u8) -> i128
     requires slot { slot < SLOTS }
@@ -148,7 +148,7 @@ fn net_in(numbers: &[u64; WORDS], slot: u8, cell: u8) -> i128
     i128::from(numbers[plus]) - i128::from(numbers[minus])
 }
 
-/// The amount that levels the two words of a cell: the lower one is raised by it.
+/// Returns the amount that levels the two words of a cell: the lower one is raised by it.
 pub(crate) fn wanting(numbers: &[u64; WORDS], slot: u8, cell: u8) -> i64
     requires slot { slot < SLOTS }
     requires cell { cell < CELLS }

@@ -41,7 +41,7 @@ pub struct Sight {
 }
 
 impl Sight {
-    /// Gives the plus-word and the minus-word of a slot below `SLOTS` and a cell below `CELLS`: how much was added to
+    /// Returns the plus-word and the minus-word of a slot below `SLOTS` and a cell below `CELLS`: how much was added to
     /// the cell there, and how much was taken off it.
     pub fn words_of(&self, slot: u8, cell: u8) -> (u64, u64)
         requires slot { slot < SLOTS }
@@ -54,7 +54,7 @@ impl Sight {
         (self.words[plus], self.words[minus])
     }
 
-    /// Gives what is published of a cell below `CELLS`: what a desk that has all slots would have published by these
+    /// Returns what is published of a cell below `CELLS`: what a desk that has all slots would have published by these
     /// words.
     pub fn published(&self, cell: u8) -> i128
         requires { cell < CELLS }
@@ -64,7 +64,7 @@ impl Sight {
     }
 }
 
-/// The word that an amount raises in a slot and cell: the plus-word, or for a negative amount the minus-word.
+/// Returns the word that an amount raises in a slot and cell: the plus-word, or for a negative amount the minus-word.
 pub(crate) fn word_of(slot: u8, cell: u8, amount: i64) -> usize
     requires slot { slot < SLOTS }
     requires cell { cell < CELLS }

@@ -42,7 +42,7 @@ impl Pending {
         Pending { deltas }
     }
 
-    /// Gives the delta of a cell.
+    /// Returns the delta of a cell.
     pub fn get(&self, cell: u8) -> i64
         requires { cell < CELLS }
         ensures { result ≡ delta_at self.now cell }
@@ -50,7 +50,7 @@ impl Pending {
         self.deltas[usize::from(cell)]
     }
 
-    /// Gives the deltas of all cells.
+    /// Returns the deltas of all cells.
     pub fn deltas(&self) -> [i64; CELLS as usize]
         ensures { result ≡ self.now }
     {
@@ -65,7 +65,7 @@ impl Pending {
         self.deltas[usize::from(cell)] = 0;
     }
 
-    /// Tells whether each delta is 0. The crates above ask for the next cell instead: this is for tests.
+    /// Returns whether each delta is 0. The crates above ask for the next cell instead: this is for tests.
     pub fn is_zero(&self) -> bool
         ensures { IsTrue result ↔ AreZero 0 CELLS self.now }
     {
@@ -115,7 +115,7 @@ impl Pending {
     }
 }
 
-/// A delta and a count.
+/// Returns a delta and a count.
 fn sum(delta: i64, count: u64) -> i64
     requires { FitsSigned w64 (delta +ℤ pos count) }
     ensures { result ≡ delta +ℤ pos count }
@@ -123,7 +123,7 @@ fn sum(delta: i64, count: u64) -> i64
     (i128::from(delta) + i128::from(count)) as i64
 }
 
-/// A delta less a count.
+/// Returns a delta less a count.
 fn difference(delta: i64, count: u64) -> i64
     requires { FitsSigned w64 (delta -ℤ pos count) }
     ensures { result ≡ delta -ℤ pos count }
