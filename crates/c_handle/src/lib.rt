@@ -1,6 +1,7 @@
-//! A box as C can keep it: taken apart into its address and what gave its memory, and put together again, with a ghost
-//! field that owns the value and the right to free its block meanwhile (`BoxParts`). Neither takes memory nor changes
-//! the value. An address alone owns nothing that a prover sees: a struct that keeps one has to say the same of it.
+//! A box in a form that C can keep. It is taken apart into its address and its allocator, and put together again, and
+//! meanwhile a ghost field owns the value and the right to free its block (`BoxParts`). Neither call takes memory nor
+//! changes the value. The prover sees no ownership in a mere address, so a struct that keeps one has to declare the
+//! same.
 #![tactic(auto)]
 
 mod parts;

@@ -1,16 +1,16 @@
-//! A box as its parts.
+//! The parts of a box.
 ghost use Rattle.std.specs.Prelude.{◌≡◌};
 ghost use Rattle.std.specs.Box.Ownership.{box_owns};
 
 use std::alloc::Allocator;
 use std::marker::Model;
 
-/// A box as its parts. They own what the box did: the value, and the right to free its block. Only `into_box` lets go
-/// of it.
+/// The parts of a box. They own what the box did: the value, and the right to free its block. Only `into_box` gives
+/// this up.
 pub struct BoxParts<T, A: Allocator> {
     /// The address of the value.
     pub address: *mut T,
-    /// What gave the memory.
+    /// The allocator that gave the memory.
     pub alloc: A,
     /// The value that lies there.
     pub ghost value: { T },

@@ -1,6 +1,6 @@
-//! A use of the register as a library: rows are added, two owners work in threads of their own, and a register is made
-//! again of what comes home. It costs what its calls cost, and two threads. What threads do to holdings must be kept in
-//! contracts of their own, or nothing shows that `gather` may have them back.
+//! A program over the register as a library. It adds rows, lets two holdings work in threads of their own, and makes a
+//! register again of what comes home. It costs what its calls cost, and two threads. A contract of your own has to say
+//! what a thread does to a holding, because otherwise nothing proves that `gather` may have it back.
 #![tactic(auto)]
 
 ghost use Rattle.std.specs.Prelude.{◌≡◌, IfOk};
@@ -14,7 +14,7 @@ use std::alloc::Global;
 use std::process::ExitCode;
 use std::thread::{self, Threads};
 
-/// The subscriber of the first part, and that of the second one, whose range begins at 65.
+/// The subscriber in the first part, and the one in the second part, whose range begins at 65.
 const LOW: u32 = 7;
 
 const HIGH: u32 = 70;
@@ -22,7 +22,7 @@ const HIGH: u32 = 70;
 /// A location in area 1.
 const LOCATION: u32 = 268_435_456;
 
-/// Returns a subscriber in area 0, whose number is its s_id.
+/// Makes a subscriber in area 0, whose number is its s_id.
 fn subscriber(s_id: u32) -> Result<Subscriber, Refusal> {
     let s_id = u64::from(s_id);
     Subscriber::try_new(
@@ -36,7 +36,7 @@ fn subscriber(s_id: u32) -> Result<Subscriber, Refusal> {
     )
 }
 
-/// Returns a register of two parts over zones of four subscribers, with one in each part.
+/// Opens a register of two parts over zones of four subscribers, with one subscriber in each part.
 fn opened(alloc: Global) -> Result<Register, Refusal>
     ensures { IfOk result (λ register. AllHome register.owners) }
 {
@@ -46,11 +46,10 @@ fn opened(alloc: Global) -> Result<Register, Refusal>
     Ok(register)
 }
 
-/// An owner that worked, and how many cells it posted.
+/// A holding on which a thread has worked, and how many cells it posted.
 type Worked = (Box<Holding>, Result<u8, Refusal>);
 
-/// Returns what an owner does in its thread: it moves a subscriber of its own to area 1, and posts what it has not
-/// posted yet.
+/// Does the work of a thread: it moves a subscriber of the holding to area 1, and posts what is pending.
 fn work(board: &Board, mut holding: Box<Holding>, s_id: u32) -> Worked
     requires { holding.value.desk.board ≡ board.now }
     ensures board { result.0.value.desk.board ≡ holding.value.desk.board }
@@ -66,7 +65,8 @@ fn work(board: &Board, mut holding: Box<Holding>, s_id: u32) -> Worked
     (holding, posted)
 }
 
-/// Both owners work at once, the first in a thread of its own. The clauses of the closures come home with them.
+/// Has both holdings worked on at the same time, the first one in a thread of its own. The clauses of the closures come
+/// home with them.
 fn work_side_by_side<R: Threads + Sync>(
     rt: &R,
     board: &Board,
@@ -90,7 +90,7 @@ fn work_side_by_side<R: Threads + Sync>(
     )
 }
 
-/// Takes a register of two parts apart, lets its owners work, and makes a register of what comes home.
+/// Takes a register of two parts apart, has its holdings worked on, and makes a register of what comes home.
 fn owners_work<R: AllocGlobal + Threads + Sync>(
     rt: &R,
     register: Register,
@@ -129,7 +129,7 @@ fn owners_work<R: AllocGlobal + Threads + Sync>(
     Ok(Register::gather(rt.alloc(), scattered)?)
 }
 
-/// Prints the subscribers of areas 0 and 1: how many are published, and how many more are not posted yet.
+/// Prints how many subscribers of areas 0 and 1 are published, and how many are unposted.
 fn show<R: Print>(rt: &R, register: &Register)
     requires { AllHome register.now.owners }
 {
@@ -144,7 +144,7 @@ fn show<R: Print>(rt: &R, register: &Register)
     }
 }
 
-/// Adds, posts the first part, and lets the owners move their subscribers and post.
+/// Adds the rows, posts the first part, and lets threads move the subscribers and post.
 fn run<R: AllocGlobal + Print + Threads + Sync>(rt: &R) -> Result<(), Refusal> {
     let mut register = opened(rt.alloc())?;
     show(rt, &register);

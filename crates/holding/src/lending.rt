@@ -37,7 +37,7 @@ impl Holding {
     }
 
     /// Returns the numbers of the forwardings of an active facility that start by one hour and end after another, in
-    /// the order of their start times. There are at most three, and none if the facility isn\'t active.
+    /// the order of their start times. There are at most three, and none if the facility isn't active.
     pub fn destinations(
         &self,
         s_id: u32,

@@ -11,8 +11,8 @@ use mr_node::{
     cut_children, cut_leaf, open, take_child,
 };
 
-/// Returns a root over some children of an inner node: a blank leaf, the only child, or an inner node. One step at
-/// most.
+/// Returns a root over some children of an inner node: a blank leaf, the only child, or an inner node. It takes one
+/// step at most.
 #[inline(never)]
 fn root_of<V: Drop + Default>(
     mut inner: Inner<Box<Node<V>>>,
@@ -35,8 +35,8 @@ fn root_of<V: Drop + Default>(
     build_inner(inner, blank, meter)
 }
 
-/// Returns the child to which a key belongs, between roots over the children in front of it and behind it. Two steps at
-/// most.
+/// Returns the child to which a key belongs, between roots over the children in front of it and behind it. It takes two
+/// steps at most.
 #[inline(never)]
 fn divide<V: Drop + Default>(
     mut inner: Inner<Box<Node<V>>>,
@@ -60,7 +60,7 @@ fn divide<V: Drop + Default>(
     (left, mid.node, right)
 }
 
-/// Returns the two roots of a leaf that is cut at a key. Two steps.
+/// Returns the two roots of a leaf that is cut at a key. It takes two steps.
 #[inline(never)]
 fn halves_of<V: Drop + Default>(
     mut leaf: Leaf<V>,

@@ -47,7 +47,7 @@ pub(crate) fn turned<V: Drop>(
     }
 }
 
-/// Evens out two neighbours of one height. Four steps.
+/// Evens out two neighbours of one height. It takes four steps.
 #[inline(never)]
 fn even<V: Drop + Default>(
     mut low: Box<Node<V>>,
@@ -65,8 +65,8 @@ fn even<V: Drop + Default>(
     (low, Some(high))
 }
 
-/// Builds an inner node of these children in a box. One step. It is not inlined: the stack of a side join holds no node
-/// then.
+/// Builds an inner node of these children in a box. It takes one step. It is not inlined: the stack of a side join
+/// holds no node then.
 #[inline(never)]
 fn built<V: Drop>(
     inner: Inner<Box<Node<V>>>,
@@ -80,7 +80,7 @@ fn built<V: Drop>(
     build_inner(inner, blank, meter)
 }
 
-/// Returns an inner node of one child. One step.
+/// Returns an inner node of one child. It takes one step.
 #[inline(never)]
 fn lone<V: Drop>(
     height: u64,
@@ -98,7 +98,7 @@ fn lone<V: Drop>(
     build_inner(inner, blank, meter)
 }
 
-/// Puts what became of the child at a side back beside the others. One step, or six where it became two.
+/// Puts what became of the child at a side back beside the others. It takes one step, or six where it became two.
 #[inline(never)]
 fn put_back<V: Drop + Default>(
     side: Side,
@@ -138,8 +138,8 @@ fn put_back<V: Drop + Default>(
     }
 }
 
-/// Joins a node beside one that is as high or higher: one node of that height comes of it, or two half full ones. Four
-/// steps, and two a level between, or seven where two nodes come back.
+/// Joins a node beside one that is as high or higher: one node of that height comes of it, or two half full ones. It
+/// takes four steps, and two a level between, or seven where two nodes come back.
 pub(crate) fn join_side<V: Drop + Default>(
     side: Side,
     node: Box<Node<V>>,

@@ -42,7 +42,7 @@ pub fn cut_children<B: Drop>(inner: &mut Inner<B>, place: usize) -> Inner<B>
     high
 }
 
-/// Builds a leaf without entries in a box. One step.
+/// Builds a leaf without entries in a box. It takes one step.
 pub fn build_blank<V: Drop + Default>(blank: Box<Node<V>>, meter: &mut Meter) -> Box<Node<V>>
     ensures seen { result.value ≡ record { height = 0; width = 0; rows = [] } }
     ensures steps { meter.new ≡ after_steps 1 meter.old }

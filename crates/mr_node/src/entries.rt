@@ -85,7 +85,7 @@ fn revise_in<V, E: Revise<V>>(values: &mut ArrayVec<V, 32>, place: usize, revisi
     revision.revise(&mut values.as_mut_slice()[place])
 }
 
-/// Changes the value at a key of a leaf: false where the key isn't there.
+/// Changes the value at a key of a leaf. It returns false if the key isn't there.
 fn revise_entry<V, E: Revise<V>>(leaf: &mut Leaf<V>, key: u64, revision: &mut E) -> bool
     requires { IsLeaf leaf.old }
     ensures rows { pairs_of leaf.new ≡ revised_at key (E.revised revision.old) (pairs_of leaf.old) }
@@ -116,8 +116,8 @@ fn revise_far<V, E: Revise<V>>(leaf: &mut Leaf<V>, key: u64, revision: &mut E) -
     revise_entry(leaf, key, revision)
 }
 
-/// Changes the value at a key of a leaf, looked for at a guess of its place first where `GUESSED`: false where the key
-/// isn't there.
+/// Changes the value at a key of a leaf, looked for at a guess of its place first where `GUESSED`. It returns false if
+/// the key isn't there.
 #[inline(always)]
 pub(crate) fn revise_entry_at<V, E: Revise<V>, const GUESSED: bool>(
     leaf: &mut Leaf<V>,

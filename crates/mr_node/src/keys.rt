@@ -61,7 +61,7 @@ pub(crate) fn is_between(keys: &[u64; 32], place: usize, key: u64) -> bool
     place < 31 && keys[place] <= key && key < keys[place + 1]
 }
 
-/// Puts a key among the others; what stands in the last place is let go.
+/// Puts a key among the others; what stands in the last place is dropped.
 pub(crate) fn put_key(keys: &mut [u64; 32], place: usize, key: u64)
     requires { place < 32 }
     ensures { keys.new ≡ insert (take 31 keys.old) place key }

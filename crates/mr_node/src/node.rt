@@ -110,7 +110,7 @@ impl<V> Node<V> {
         }
     }
 
-    /// Finds the value at a key, or `None`. Looking is no step.
+    /// Finds the value at a key, or returns `None` if there is none. A look counts as no step.
     pub fn find(&self, key: u64) -> Option<&V>
         ensures { option_map (λ r. r.now) result ≡ value_at key self.now.rows }
     {
@@ -146,7 +146,7 @@ impl<V> Node<V> {
         }
     }
 
-    /// Finds the child to which a key belongs; of a leaf itself. Looking is no step.
+    /// Finds the child to which a key belongs; of a leaf itself. A look counts as no step.
     #[inline]
     pub fn towards(&self, key: u64) -> &Node<V>
         ensures same { value_at key result.now.rows ≡ value_at key self.now.rows }
@@ -164,7 +164,8 @@ impl<V> Node<V> {
         }
     }
 
-    /// Finds the first row from a key on, or `None`. Looking is no step.
+    /// Finds the first row whose number or key is this one or higher, or returns `None` if there is none. A look counts
+    /// as no step.
     pub fn first_from(&self, key: u64) -> Option<(u64, &V)>
         ensures { option_map (λ r. (r.0, r.1.now)) result ≡ find (λ p. nat_le key p.0) self.now.rows }
     {
@@ -191,7 +192,7 @@ impl<V> Node<V> {
         }
     }
 
-    /// Folds the rows in key order. Looking is no step.
+    /// Folds the rows in key order. A look counts as no step.
     pub fn fold<A, F: Fn(A, u64, &V) -> A>(&self, init: A, f: &F) -> A
         requires { F.IsAlwaysCallable f.now }
         ensures { FoldsRows (λ a k r b. F.post f.now a k r b) init self.now.rows result }
@@ -213,7 +214,7 @@ impl<V> Node<V> {
         }
     }
 
-    /// Hands each row in key order to a closure, with what it writes to. Looking is no step.
+    /// Hands each row in key order to a closure, with what it writes to. A look counts as no step.
     pub fn walk<A, F: Fn(&mut A, u64, &V)>(&self, so_far: &mut A, f: &F)
         requires { F.IsAlwaysCallable f.now }
         ensures { WalksRows (λ a k r b. F.post f.now a k r tt b) so_far.old self.now.rows so_far.new }
@@ -241,8 +242,8 @@ impl<V> Node<V> {
 }
 
 impl<V: Copy> Node<V> {
-    /// Puts the next rows from a key on into an empty page, as many as one leaf has: some where there are any. Looking
-    /// is no step.
+    /// Puts the next rows from a key on into an empty page, as many as one leaf has: some where there are any. A look
+    /// counts as no step.
     pub fn page_from(&self, key: u64, page: &mut ArrayVec<(u64, V), 32>)
         requires { page.old.items ≡ [] }
         ensures { IsPage key self.now.rows page.new.items }
@@ -278,8 +279,8 @@ impl<V: Drop> Node<V> {
         Err(swap.value)
     }
 
-    /// Changes the value at a key where it lies: false where the key isn't there, and then nothing has changed. Looking
-    /// is no step.
+    /// Changes the value at a key where it lies. It returns false if the key isn't there, and then nothing has changed.
+    /// A look counts as no step.
     pub fn revise<E: Revise<V>>(&mut self, key: u64, revision: &mut E) -> bool
         ensures rows { self.new ≡ record self.old { rows = revised_at key (E.revised revision.old) self.old.rows } }
         ensures well { IsWell self.new }
@@ -446,7 +447,7 @@ impl<V: Drop + Default> Node<V> {
         }
     }
 
-    /// Puts a full node under a new root of two halves, which takes two blank nodes. Four steps.
+    /// Puts a full node under a new root of two halves, which takes two blank nodes. It takes four steps.
     #[cold]
     #[inline(never)]
     pub fn add_root(&mut self, stock: &mut Stock<V>, meter: &mut Meter)
@@ -482,7 +483,7 @@ impl<V: Drop + Default> Node<V> {
         drop_root(self, meter);
     }
 
-    /// Moves the upper half of a full node into another one, whose own rows are let go.
+    /// Moves the upper half of a full node into another one, whose own rows are dropped.
     pub(crate) fn halve_into(&mut self, high: &mut Node<V>)
         requires { self.old.width ≡ 32 }
         ensures { IsHalved self.old self.new high.new }
@@ -502,7 +503,7 @@ impl<V: Drop + Default> Node<V> {
     }
 
     /// Evens out a node and its next neighbour of the same height in place. True where the first has all rows now; else
-    /// both are half full. Four steps.
+    /// both are half full. It takes four steps.
     pub fn even_with(&mut self, next: &mut Node<V>, meter: &mut Meter) -> bool
         requires level { self.old.height ≡ next.old.height }
         requires ordered { IsOrderedBy key_of_pair (self.old.rows ++ next.old.rows) }
@@ -514,7 +515,7 @@ impl<V: Drop + Default> Node<V> {
     }
 
     /// Moves entries between a node and its next neighbour of the same height until the first has `low`. True where it
-    /// has all rows then; else both are half full. Four steps.
+    /// has all rows then; else both are half full. It takes four steps.
     pub(crate) fn share_with(&mut self, next: &mut Node<V>, low: usize, meter: &mut Meter) -> bool
         requires level { self.old.height ≡ next.old.height }
         requires ordered { IsOrderedBy key_of_pair (self.old.rows ++ next.old.rows) }
@@ -680,7 +681,7 @@ fn only_child<V: Drop + Default>(node: Node<V>, meter: &mut Meter) -> Node<V>
     }
 }
 
-/// Takes a node apart: its parts, and its box, which is now blank. One step.
+/// Takes a node apart: its parts, and its box, which is now blank. It takes one step.
 pub fn open<V: Drop + Default>(
     mut node: Box<Node<V>>,
     meter: &mut Meter,
@@ -695,7 +696,7 @@ pub fn open<V: Drop + Default>(
     (body, node)
 }
 
-/// Builds a leaf of these entries in a box. One step.
+/// Builds a leaf of these entries in a box. It takes one step.
 pub fn build_leaf<V: Drop>(
     leaf: Leaf<V>,
     mut blank: Box<Node<V>>,
@@ -710,7 +711,7 @@ pub fn build_leaf<V: Drop>(
     blank
 }
 
-/// Builds an inner node of these children in a box. One step.
+/// Builds an inner node of these children in a box. It takes one step.
 pub fn build_inner<V: Drop>(
     inner: Inner<Box<Node<V>>>,
     mut blank: Box<Node<V>>,

@@ -44,7 +44,7 @@ fn pair_width<V>(inner: &Inner<Box<Node<V>>>, place: usize) -> usize
 }
 
 /// Moves entries between the child at `place` and the next one until the first has `low`: true where the next one is
-/// empty then. Four steps.
+/// empty then. It takes four steps.
 fn share_pair<V: Drop + Default>(
     inner: &mut Inner<Box<Node<V>>>,
     place: usize,
@@ -73,7 +73,7 @@ fn share_pair<V: Drop + Default>(
     }
 }
 
-/// Evens out the child at `place` and the next one; one that is empty then is let go. Four steps.
+/// Evens out the child at `place` and the next one; one that is empty then is dropped. It takes four steps.
 fn join_pair<V: Drop + Default>(inner: &mut Inner<Box<Node<V>>>, place: usize, meter: &mut Meter)
     requires loose { IsInnerOf 15 inner.old }
     requires within { place + 1 < inner.old.len }
@@ -106,7 +106,7 @@ fn pair_of<V>(inner: &Inner<Box<Node<V>>>, place: usize) -> usize
 }
 
 /// Rebalances an inner node whose child at `place` may be one short of half full, by evening it out with a neighbour.
-/// Four steps.
+/// It takes four steps.
 #[cold]
 #[inline(never)]
 fn rebalance_thin<V: Drop + Default>(

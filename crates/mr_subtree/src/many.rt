@@ -1,5 +1,5 @@
-//! Looks at up to 16 keys side by side: one level of all descents, then the next, so that their waits for memory
-//! overlap.
+//! The lookup of up to 16 keys at once. It goes down one level of all paths, and then the next one, so that their
+//! memory accesses overlap.
 ghost use Rattle.std.specs.Prelude.{◌≡◌, ◌≤◌, [], length, map};
 ghost use Rattle.mr_node.specs.Rows.{value_at};
 ghost use Rattle.mr_subtree.specs.Inside.{HaveSameValues, KeepSameValues};
@@ -8,7 +8,7 @@ use crate::subtree::SubTree;
 use arrayvec::ArrayVec;
 use mr_node::Node;
 
-/// Returns the next nodes of descents to keys: of each node the child to which its key belongs.
+/// Returns the next nodes on the paths to keys, which are the children to which the keys belong.
 #[inline]
 fn next_nodes<'a, V>(mut nodes: [&'a Node<V>; 16], keys: &[u64]) -> [&'a Node<V>; 16]
     requires { length keys.now ≤ 16 }
@@ -20,7 +20,7 @@ fn next_nodes<'a, V>(mut nodes: [&'a Node<V>; 16], keys: &[u64]) -> [&'a Node<V>
     nodes
 }
 
-/// Returns the leaves to which keys belong, each beside its key.
+/// Returns the leaves to which keys belong, in the order of the keys.
 #[inline]
 fn leaves<'a, V>(root: &'a Node<V>, keys: &[u64]) -> [&'a Node<V>; 16]
     requires { length keys.now ≤ 16 }
@@ -34,9 +34,8 @@ fn leaves<'a, V>(root: &'a Node<V>, keys: &[u64]) -> [&'a Node<V>; 16]
 }
 
 impl<V: Copy> SubTree<V> {
-    /// Puts the values at up to 16 keys into an empty list, one for each key in the order of the keys, `None` if the
-    /// key isn't there. The keys are looked up with overlapping memory accesses, so that their waits for memory
-    /// overlap.
+    /// Puts the values at up to 16 keys into an empty list, one for each key in the order of the keys, with `None` for
+    /// a key that isn't there. The keys are looked up with overlapping memory accesses.
     pub fn copy_many(&self, keys: &[u64], found: &mut ArrayVec<Option<V>, 16>)
         requires few { length keys.now ≤ 16 }
         requires empty { found.old.items ≡ [] }

@@ -14,12 +14,12 @@ use std::alloc::Global;
 use std::marker::Model;
 use tatp_rows::{Back, Refusal};
 
-/// A tree of rows, seen as its height, the width of its root, and the list of its pairs of key and value, whose keys
-/// rise and lie below 18446744073709551614.
+/// A tree of rows, seen as its height, the width of its root, and the list of its pairs of key and value. Its keys
+/// rise, and are below 18446744073709551614.
 #[derive(Drop)]
 pub struct SubTree<V> {
     root: Node<V>,
-    // Blank nodes that splits took and didn't use, for the next one.
+    // The blank nodes that splits took and didn't use, which the next split can use.
     spare: Stock<V>,
 }
 
@@ -38,7 +38,7 @@ impl<V> Model for SubTree<V> {
 }
 
 impl<V: Default> SubTree<V> {
-    /// Makes a tree without rows. The root lies in the tree itself, so this is always `Ok`.
+    /// Makes a tree without rows. The root lies in the tree itself, so this always returns `Ok`.
     pub fn new(alloc: Global) -> Result<Self, Refusal>
         ensures tree { IfOk result (λ tree. (tree.rows ≡ []) × (tree.height ≡ 0)) }
         ensures ok { IfErr result (λ _. ⊥) }
@@ -51,7 +51,7 @@ impl<V: Default> SubTree<V> {
 }
 
 impl<V> SubTree<V> {
-    /// Makes the tree of a root that meets the rules.
+    /// Makes the tree of a root that keeps the rules.
     pub fn from_root(alloc: Global, root: Node<V>) -> Self
         requires { IsRoot root }
         ensures { result ≡ root }
@@ -69,20 +69,21 @@ impl<V> SubTree<V> {
         &self.root
     }
 
-    /// Returns the allocator of which the tree takes memory.
+    /// Returns the allocator from which the tree takes memory.
     pub fn alloc(&self) -> Global {
         self.spare.alloc()
     }
 
-    /// Finds the value at a key, or `None`.
+    /// Finds the value at a key, or returns `None` if there is none.
     pub fn get(&self, key: u64) -> Option<&V>
         ensures { option_map (λ r. r.now) result ≡ value_at key self.now.rows }
     {
         self.root.find(key)
     }
 
-    /// Finds the value at a key, or `None`: quicker than `get` in a dense tree, whose keys are 2^`shift` apart and came
-    /// in rising order, and slower in others. It looks first where the key is in such a tree.
+    /// Finds the value at a key, or returns `None` if there is none. It first looks where the key is in a dense tree,
+    /// whose keys are 2^`shift` apart and came in rising order. In such a tree it is quicker than `get`, and in others
+    /// it is slower.
     pub fn get_by_guess(&self, key: u64, shift: u32) -> Option<&V>
         ensures { option_map (λ r. r.now) result ≡ value_at key self.now.rows }
     {
@@ -96,7 +97,8 @@ impl<V> SubTree<V> {
         self.root.len()
     }
 
-    /// Returns the height: 0 for a root that is a leaf. A tree of height h of at least 1 has 2 * 16^h to 32^(h+1) rows.
+    /// Returns the height, which is 0 for a root that is a leaf. A tree of a height h of at least 1 has 2 * 16^h to
+    /// 32^(h+1) rows.
     pub fn height(&self) -> u64
         ensures value { result ≡ self.now.height }
         ensures bounds { IsHeightOf result (length self.now.rows) }
@@ -105,14 +107,14 @@ impl<V> SubTree<V> {
         self.root.height()
     }
 
-    /// Finds the first row from a key on, or `None`.
+    /// Finds the first row whose key is this one or higher, or returns `None` if there is none.
     pub fn first_from(&self, key: u64) -> Option<(u64, &V)>
         ensures { option_map (λ r. (r.0, r.1.now)) result ≡ find (λ p. nat_le key p.0) self.now.rows }
     {
         self.root.first_from(key)
     }
 
-    /// Folds the rows in key order: each call is given what was folded so far, a key, and its value.
+    /// Folds the rows in the order of keys. Each call is given what was folded so far, a key, and its value.
     pub fn fold<A, F: Fn(A, u64, &V) -> A>(&self, init: A, f: &F) -> A
         requires { F.IsAlwaysCallable f.now }
         ensures { FoldsRows (λ a k r b. F.post f.now a k r b) init self.now.rows result }
@@ -120,7 +122,7 @@ impl<V> SubTree<V> {
         self.root.fold(init, f)
     }
 
-    /// Hands each row in key order to a closure, with what it writes to: each call is given a key, and its value.
+    /// Hands each row, in the order of keys, to a closure, together with what the closure writes to.
     pub fn walk<A, F: Fn(&mut A, u64, &V)>(&self, so_far: &mut A, f: &F)
         requires { F.IsAlwaysCallable f.now }
         ensures { WalksRows (λ a k r b. F.post f.now a k r tt b) so_far.old self.now.rows so_far.new }
@@ -130,7 +132,8 @@ impl<V> SubTree<V> {
 }
 
 impl<V: Copy> SubTree<V> {
-    /// Puts the next rows from a key on into an empty page, as many as one leaf has: some where there are any.
+    /// Puts the next rows, from a key on, into an empty page, as many as one leaf has. It puts at least one if there is
+    /// one.
     pub fn page_from(&self, key: u64, page: &mut ArrayVec<(u64, V), 32>)
         requires { page.old.items ≡ [] }
         ensures { IsPage key self.now.rows page.new.items }
@@ -140,7 +143,7 @@ impl<V: Copy> SubTree<V> {
 }
 
 impl<V: Drop> SubTree<V> {
-    /// Returns the root, which meets the rules. Blank nodes that the tree kept are let go.
+    /// Returns the root, which keeps the rules. Blank nodes that the tree has kept are dropped.
     pub fn into_root(self) -> Node<V>
         ensures same { result ≡ self }
         ensures root { IsRoot result }
@@ -148,7 +151,8 @@ impl<V: Drop> SubTree<V> {
         self.root
     }
 
-    /// Replaces the value at a key, and gives the old one; the new one back where the key isn't there. Takes no memory.
+    /// Replaces the value at a key, and returns the old one. If the key isn't there, it hands the new one back. It
+    /// takes no memory.
     pub fn replace(&mut self, key: u64, value: V) -> Result<V, V>
         ensures rows { self.new ≡ record self.old { rows = with_row_at key_of_pair key (key, value) self.old.rows } }
         ensures value { result ≡ ok_or (value_at key self.old.rows) value }
@@ -156,8 +160,8 @@ impl<V: Drop> SubTree<V> {
         self.root.replace(key, value)
     }
 
-    /// Changes the value at a key where it lies: false where the key isn't there, and then nothing has changed. Takes
-    /// no memory.
+    /// Changes the value at a key where it lies. It returns false if the key isn't there, and then nothing has changed.
+    /// It takes no memory.
     pub fn revise<E: Revise<V>>(&mut self, key: u64, revision: &mut E) -> bool
         ensures rows { self.new ≡ record self.old { rows = revised_at key (E.revised revision.old) self.old.rows } }
         ensures spent { revision.new ≡ spent_at key E.spent revision.old self.old.rows }
@@ -166,8 +170,8 @@ impl<V: Drop> SubTree<V> {
         self.root.revise(key, revision)
     }
 
-    /// Changes the value at a key where it lies, as `revise` does: quicker than that in a dense tree, as `get_by_guess`
-    /// is. Takes no memory.
+    /// Changes the value at a key where it lies, as `revise` does. It is quicker than that in a dense tree, in the same
+    /// way as `get_by_guess`. It takes no memory.
     pub fn revise_by_guess<E: Revise<V>>(&mut self, key: u64, shift: u32, revision: &mut E) -> bool
         ensures rows { self.new ≡ record self.old { rows = revised_at key (E.revised revision.old) self.old.rows } }
         ensures spent { revision.new ≡ spent_at key E.spent revision.old self.old.rows }
@@ -178,7 +182,7 @@ impl<V: Drop> SubTree<V> {
 }
 
 impl<V: Drop + Default> SubTree<V> {
-    /// Takes the row at a key out, and gives its value. Takes no memory.
+    /// Removes the row at a key, and returns its value. It takes no memory.
     pub fn remove(&mut self, key: u64) -> Option<V>
         ensures rows { self.new.rows ≡ without_row key_of_pair key self.old.rows }
         ensures value { result ≡ value_at key self.old.rows }
@@ -189,9 +193,10 @@ impl<V: Drop + Default> SubTree<V> {
         gone
     }
 
-    /// Puts a row in. Its refusals, in order, are `Exists` if a row with the key is there, and `Memory` if the blank
-    /// nodes for it can't be had: then the tree is as it was, and the value is handed back. A tree of fewer than 32
-    /// rows never wants blank nodes, since it stays as high as it is. The key has to be below 18446744073709551614.
+    /// Adds a row. Its refusals, in order, are `Exists` if a row with the key is there, and `Memory` if the system
+    /// refuses memory for the blank nodes. After a refusal the tree is as it was, and the value is handed back. A tree
+    /// of fewer than 32 rows never needs blank nodes, because its height doesn't grow. The key has to be below
+    /// 18446744073709551614.
     pub fn insert(&mut self, key: u64, value: V) -> Result<(), Back<V>>
         requires { key < key_limit }
         ensures answer { IsInserted key value self.old.rows self.new.rows result }
@@ -207,7 +212,7 @@ impl<V: Drop + Default> SubTree<V> {
         }
     }
 
-    /// Puts a row in whose leaf is full: all blank nodes are taken before the tree changes.
+    /// Adds a row whose leaf is full. All blank nodes are taken before the tree changes.
     #[cold]
     #[inline(never)]
     fn insert_full(&mut self, key: u64, mut item: Option<V>) -> Result<(), Back<V>>
@@ -226,7 +231,8 @@ impl<V: Drop + Default> SubTree<V> {
     }
 }
 
-/// Returns how many blank nodes a row takes at most whose leaf is full: one a level, and three more under a full root.
+/// Returns how many blank nodes at most are needed to add a row whose leaf is full: one for each level, and three more
+/// under a full root.
 fn blanks_wanted<V>(root: &Node<V>) -> usize
     requires { IsRoot root.now }
     ensures each { root.now.height ≤ result }
@@ -240,7 +246,7 @@ fn blanks_wanted<V>(root: &Node<V>) -> usize
     levels
 }
 
-/// Puts a row in whose leaf is full, where the blank nodes for it are there.
+/// Adds a row whose leaf is full, with the blank nodes for it in the stock.
 fn grow<V: Drop + Default>(root: &mut Node<V>, key: u64, item: &mut Option<V>, stock: &mut Stock<V>)
     requires root { IsRoot root.old }
     requires small { key < key_limit }
@@ -260,7 +266,7 @@ fn grow<V: Drop + Default>(root: &mut Node<V>, key: u64, item: &mut Option<V>, s
     root.insert_split(key, item, stock, &mut meter);
 }
 
-/// Returns the answer that a row was refused, with its value.
+/// Returns the refusal of a row, with its value.
 fn refused<V>(why: Refusal, item: Option<V>) -> Result<(), Back<V>>
     requires { IsSome item }
     ensures { IfSome item (λ value. result ≡ Err (record { why = why; item = value })) }

@@ -1,4 +1,4 @@
-//! The index of numbers, over a sub-tree from number to subscriber.
+//! The index of numbers, as a sub-tree that maps numbers to subscribers.
 ghost use Rattle.std.specs.Prelude.{◌≡◌, ◌<◌, ◌≤◌, ℕ, [], length, nat_le, option_map, IfOk, IfErr, Err};
 ghost use Rattle.std.specs.List.{find};
 ghost use Rattle.tatp_rows.specs.Ordered.{without_row};
@@ -13,10 +13,10 @@ use std::alloc::Global;
 use std::marker::Model;
 use tatp_rows::{Number, Refusal};
 
-/// Some pairs of a number and a subscriber, one after another: at most 32.
+/// At most 32 successive pairs of a number and a subscriber.
 pub type Page = ArrayVec<(u64, u32), 32>;
 
-/// Which subscriber has a number, seen as the list of pairs (number, s_id), whose numbers rise.
+/// The index of numbers, seen as the list of its pairs (number, s_id), whose numbers rise.
 #[derive(Drop)]
 pub struct NumberIndex {
     tree: SubTree<u32>,
@@ -34,7 +34,7 @@ impl Model for NumberIndex {
 }
 
 impl NumberIndex {
-    /// Makes an index without a pair. Its tree takes no memory, so this is always `Ok`.
+    /// Makes an index without a pair. Its tree takes no memory, so this always returns `Ok`.
     pub fn new(alloc: Global) -> Result<Self, Refusal>
         ensures index { IfOk result (λ index. index ≡ []) }
         ensures ok { IfErr result (λ _. ⊥) }
@@ -43,11 +43,11 @@ impl NumberIndex {
         Ok(NumberIndex { tree })
     }
 
-    /// Finds the subscriber who has a number, or `None`.
+    /// Finds the subscriber who has a number, or returns `None` if nobody has it.
     pub fn find(&self, number: Number) -> Option<u32>
         ensures { result ≡ bearer_in number self.now }
     {
-        // The guess is right where numbers follow one another.
+        // The guess is right where numbers follow one another without a gap.
         self.tree.get_by_guess(number.value(), 0).copied()
     }
 
@@ -58,7 +58,7 @@ impl NumberIndex {
         self.tree.len()
     }
 
-    /// Finds the first pair from a number on, or `None`.
+    /// Finds the first pair whose number is this one or higher, or returns `None` if there is none.
     pub fn first_from(&self, number: u64) -> Option<(Number, u32)>
         ensures first { result ≡ find (λ pair. nat_le number pair.0) self.now }
         ensures pairs { ArePairs self.now }
@@ -67,7 +67,8 @@ impl NumberIndex {
         Some((as_number(value), *s_id))
     }
 
-    /// Puts the next pairs from a number on into a page, in place of what it held: some where there are any.
+    /// Puts the next pairs, from a number on, into a page, in place of what it held. It puts at least one if there is
+    /// one.
     pub fn page_from(&self, number: u64, page: &mut Page)
         ensures page { IsPage number self.now page.new.items }
         ensures pairs { ArePairs self.now }
@@ -77,7 +78,7 @@ impl NumberIndex {
     }
 
     /// Adds a pair. Its refusals, in order, are `NumberTaken` if a subscriber has the number, and `Memory` if the index
-    /// can\'t grow, and then it is as before.
+    /// can't grow, and then it is as before.
     pub fn add(&mut self, number: Number, s_id: u32) -> Result<(), Refusal>
         ensures added { IsAdded number s_id self.old self.new result }
         ensures memory { IfErr result (λ why. why ≡ Refusal.Memory → 32 ≤ length self.old) }
@@ -91,7 +92,7 @@ impl NumberIndex {
         }
     }
 
-    /// Takes a number out, and gives the subscriber who had it. It takes no memory.
+    /// Removes a number, and returns the subscriber who had it. It takes no memory.
     pub fn remove(&mut self, number: Number) -> Option<u32>
         ensures pairs { self.new ≡ without_row key_of_pair number self.old }
         ensures owner { result ≡ bearer_in number self.old }
@@ -99,9 +100,10 @@ impl NumberIndex {
         self.tree.remove(number.value())
     }
 
-    /// Returns the subscriber who has a number another one; nothing changes where the two are equal. Its refusals, in
+    /// Gives the subscriber who has a number another one, and changes nothing if the two are equal. Its refusals, in
     /// order, are `NoNumber` if no subscriber has the number, `NumberTaken` if one has the other, and `Memory` if the
-    /// index can\'t grow, and then it is as before, for the new pair goes in before the old one goes.
+    /// index can't grow. After a refusal the index is as before, because the new pair goes in before the old one comes
+    /// out.
     pub fn rename(&mut self, from: Number, to: Number) -> Result<(), Refusal>
         ensures renamed { IsRenamed from to self.old self.new result (bearer_in from self.old) }
         ensures memory { IfErr result (λ why. why ≡ Refusal.Memory → 32 ≤ length self.old) }
@@ -118,7 +120,7 @@ impl NumberIndex {
     }
 }
 
-/// Returns a value that is a number, as one.
+/// Returns a value, which must be a number, as one.
 fn as_number(value: u64) -> Number
     requires { IsNumber value }
     ensures { result ≡ value }

@@ -1,4 +1,4 @@
-//! Bounds between parts, and those that a proposal finds.
+//! The bounds between parts, and the proposal of bounds.
 ghost use Rattle.std.specs.Prelude.{◌≡◌, ◌+◌, ◌*◌, ◌<◌, ◌≤◌, true, length, sum, All};
 ghost use Rattle.part_table.specs.Bounds.{are_rising};
 ghost use Rattle.part_table.specs.Proposal.{proposal, share_zone};
@@ -12,13 +12,13 @@ use tatp_rows::{GREATEST_WIDTH, LAST_SUBSCRIBER};
 /// How many zones the s_ids are divided into.
 const ZONES: u8 = 32;
 
-/// The greatest weight of a zone: all rows that there can be.
+/// The greatest weight of a zone, which is the number of all rows that there can be.
 pub const GREATEST_WEIGHT: u64 = 352_321_536;
 
 // Definitions name this constant, so its number is proved here: a subscriber has at most 21 rows.
 const _: () = prove!(GREATEST_WEIGHT == 21 * 16_777_216);
 
-/// At most 15 bounds between parts, strictly rising in 2..=16,777,216: seen as their list.
+/// At most 15 bounds between parts, which rise strictly in 2..=16,777,216, seen as their list.
 #[derive(Debug, Drop)]
 pub struct Bounds {
     list: ArrayVec<u64, 15>,
@@ -36,7 +36,7 @@ impl Model for Bounds {
 }
 
 impl Bounds {
-    /// Returns the bounds in order, as a recut takes them.
+    /// Returns the bounds in order, in the form in which a recut takes them.
     pub fn list(&self) -> &[u64]
         ensures value { result.now ≡ self.now }
         ensures rising { are_rising 1 result.now ≡ true }
@@ -68,7 +68,7 @@ fn total(weights: &[u64; 32]) -> u64
     weights.iter().sum()
 }
 
-/// Returns the least zone, 0..=32, below which at least so many of the parts' equal shares of all weight lie.
+/// Returns the least zone, 0..=32, below which so many of the parts' equal shares of all weight lie.
 fn share_zone(weights: &[u64; 32], parts: u8, shares: u8) -> u8
     requires weights { sum weights.now ≤ 32 * GREATEST_WEIGHT }
     requires parts { parts ≤ MOST_PARTS }
@@ -87,9 +87,10 @@ fn share_zone(weights: &[u64; 32], parts: u8, shares: u8) -> u8
 }
 
 impl Regions {
-    /// Proposes bounds that give each part about its share of the rows: each lies in front of the least zone below
-    /// which the equal shares of the parts in front of it lie whole, but no zone twice, and one zone at least for each
-    /// part. A zone has a weight of at most 352,321,536. Parts has to be 1..=16, and the zone width 1..=524,288.
+    /// Proposes bounds by which each part would have about its share of the rows. A bound lies in front of the least
+    /// zone below which the equal shares of all parts in front of it fit whole. No zone has two bounds, and each part
+    /// has at least one zone. The weight of a zone must be at most 352,321,536, parts must be 1..=16, and the zone
+    /// width 1..=524,288.
     pub fn propose(weights: &[u64; 32], parts: u8, width: u32) -> Bounds
         requires weights { All (λ w. w ≤ GREATEST_WEIGHT) weights.now }
         requires some_part { 1 ≤ parts }

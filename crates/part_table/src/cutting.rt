@@ -1,4 +1,4 @@
-//! Cutting a part's region in two.
+//! The cut of a part's region in two.
 ghost use Rattle.std.specs.Prelude.{◌≡◌, ◌+◌, ◌<◌, [], ◌∷◌, insert, slice_set};
 ghost use Rattle.arrayvec.specs.ArrayVec.{array_vec_len};
 ghost use Rattle.part_table.specs.Give.{given, halves};
@@ -6,7 +6,7 @@ ghost use Rattle.part_table.specs.Give.{given, halves};
 use crate::region::{Place, Region, Side};
 use arrayvec::ArrayVec;
 
-/// Returns where the stretch begins and ends that a part gives away: below `at`, or from it on.
+/// Returns where the piece begins and ends that a part gives away, which is all below `at`, or all from it on.
 pub(crate) fn given(part: Region, side: Side, at: u32) -> (u32, u32)
     ensures { result ≡ given side at part }
 {
@@ -16,7 +16,7 @@ pub(crate) fn given(part: Region, side: Side, at: u32) -> (u32, u32)
     }
 }
 
-/// Returns a part's region cut in two, of which the half on one side is the loose piece `n`.
+/// Returns the two halves of a part's region, of which the one on the given side is the loose piece `n`.
 pub(crate) fn halves(part: Region, n: u8, side: Side, at: u32) -> (Region, Region)
     ensures { result.0 ∷ result.1 ∷ [] ≡ halves n side at part }
 {

@@ -1,4 +1,4 @@
-//! Finding regions, counting those of parts, and a number for a new piece.
+//! The search for regions, the count of parts, and a number for a new piece.
 ghost use Rattle.std.specs.Prelude.{◌≡◌, length, position, count_by, MatchOption};
 ghost use Rattle.std.specs.List.{list_any};
 ghost use Rattle.part_table.specs.Give.{IsFreeNumber};
@@ -14,21 +14,21 @@ pub(crate) fn count_parts(regions: &[Region]) -> usize
     regions.iter().filter(|region| region.is_of_part()).count()
 }
 
-/// Returns where the first region stands that ends behind an s_id, if there is one.
+/// Returns the place of the first region that ends behind an s_id, if there is one.
 pub(crate) fn end_behind(regions: &[Region], s_id: u32) -> Option<usize>
     ensures { result ≡ position (ends_behind s_id) regions.now }
 {
     regions.iter().position(|region| s_id < region.hi)
 }
 
-/// Returns where the region of the part `p` stands among some of the regions, if it is there.
+/// Returns the place of the part `p` among some of the regions, if it is there.
 fn part_among(regions: &[Region], p: u64) -> Option<usize>
     ensures { result ≡ position (is_part p) regions.now }
 {
     regions.iter().position(|region| region.is_part(p))
 }
 
-/// Returns where the region of the part `p` stands, if it is there: behind those of the parts before it.
+/// Returns the place of the part `p`, if it is there. It is behind those of the parts before it.
 pub(crate) fn part_at(regions: &[Region], p: u64) -> Option<usize>
     requires { AreRegions regions.now }
     ensures { result ≡ position (is_part p) regions.now }
@@ -38,7 +38,7 @@ pub(crate) fn part_at(regions: &[Region], p: u64) -> Option<usize>
     Some(before + i)
 }
 
-/// Returns where the region of the loose piece `n` stands, if it is there.
+/// Returns the place of the loose piece `n`, if it is there.
 pub(crate) fn piece_at(regions: &[Region], n: u64) -> Option<usize>
     ensures { result ≡ position (is_piece n) regions.now }
 {

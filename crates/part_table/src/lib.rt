@@ -1,6 +1,7 @@
-//! Who has which s_ids: the regions of parts and loose pieces, how gives, takes, divides, dissolves and recuts change
-//! them, and which bounds would give each part about its share of the rows. A call looks at up to 32 regions or weights
-//! and takes no memory. A list of regions knows no rows: whoever changes it has to move them too.
+//! The regions of parts and loose pieces, which say who has which s_ids: how gives, takes, divides, dissolves and
+//! recuts change them, and which bounds would give each part about its share of the rows. A call looks at up to 32
+//! regions or weights and takes no memory. A list of regions knows no rows, so a caller who changes it has to move the
+//! rows too.
 #![tactic(auto)]
 
 mod bounds;

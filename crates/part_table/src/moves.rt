@@ -1,12 +1,12 @@
-//! A move of a bound between two parts.
+//! The move of a bound between two parts.
 
-/// A bound between two parts that moves: the part that loses a stretch gives it away, and its neighbour takes it.
+/// A bound between two parts that moves. The part that loses subscribers gives them away, and its neighbour takes them.
 #[derive(Clone, Copy, Debug, Default, PartialEq, Eq)]
 pub struct CutMove {
-    /// Which bound: that between the part of this number and the one before it, 1..=15.
+    /// The number of the part that begins at the bound, 1..=15.
     pub bound: u8,
     /// Where the bound was.
     pub from: u32,
-    /// Where the bound comes to.
+    /// Where the bound will be.
     pub to: u32,
 }

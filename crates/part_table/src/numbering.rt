@@ -1,4 +1,4 @@
-//! The numbers that parts and loose pieces are given in their order, and those that rise and fall.
+//! The numbers of parts and loose pieces, which are given in their order, and which rise and fall.
 ghost use Rattle.std.specs.Prelude.{◌≡◌, ◌<◌, ◌≤◌, ◌++◌, drop, take};
 ghost use Rattle.std.specs.List.{AllByRecursion};
 ghost use Rattle.part_table.specs.Dissolve.{lowered, place_lowered};
@@ -17,7 +17,7 @@ pub(crate) struct Next {
 }
 
 impl Next {
-    /// Returns the next place of a kind.
+    /// Returns the next place of the kind of this one, and counts it.
     pub(crate) fn place(&mut self, kind: Place) -> Place
         requires part { self.old.part < 255 }
         requires piece { self.old.piece < 255 }
@@ -38,7 +38,7 @@ impl Next {
     }
 }
 
-/// Returns the place with a number that is one more, where it is a part's.
+/// Returns the place with a number that is one higher, if it is a part's.
 pub(crate) fn raised(place: Place) -> Place
     requires { AllByRecursion (λ p. p < 255) (part_number place) }
     ensures { result ≡ place_raised place }
@@ -49,7 +49,7 @@ pub(crate) fn raised(place: Place) -> Place
     }
 }
 
-/// Returns the place with a number that is one less, where it is a part's.
+/// Returns the place with a number that is one lower, if it is a part's.
 fn lowered(place: Place) -> Place
     requires { AllByRecursion (λ p. 1 ≤ p) (part_number place) }
     ensures { result ≡ place_lowered place }
@@ -60,7 +60,7 @@ fn lowered(place: Place) -> Place
     }
 }
 
-/// Raises the parts' numbers by one from an index on.
+/// Raises the numbers of the parts from a place on by one.
 pub(crate) fn raise_from(regions: &mut [Region], from: usize)
     requires { AllByRecursion (λ p. p < 255) (parts_of (drop from regions.old)) }
     ensures { regions.new ≡ take from regions.old ++ raised (drop from regions.old) }
@@ -70,7 +70,7 @@ pub(crate) fn raise_from(regions: &mut [Region], from: usize)
     }
 }
 
-/// Lowers the parts' numbers by one from an index on.
+/// Lowers the numbers of the parts from a place on by one.
 pub(crate) fn lower_from(regions: &mut [Region], from: usize)
     requires { AllByRecursion (λ p. 1 ≤ p) (parts_of (drop from regions.old)) }
     ensures { regions.new ≡ take from regions.old ++ lowered (drop from regions.old) }

@@ -1,4 +1,4 @@
-//! Parts that are divided in two, and dissolved into the part in front.
+//! The parts that are divided in two, and those that are dissolved into the part in front.
 ghost use Rattle.std.specs.Prelude.{◌≡◌, ◌<◌, ℕ, Some, IfOk, IfErr, position};
 ghost use Rattle.std.specs.List.{AllByRecursion};
 ghost use Rattle.part_table.specs.Dissolve.{after_dissolve, dissolve_answer, dissolved};
@@ -14,7 +14,7 @@ use crate::regions::Regions;
 use tatp_rows::Refusal;
 
 impl Regions {
-    /// Tells what [`Regions::divide`] would answer, and in front of it where the region of the part stands. Nothing
+    /// Returns what [`Regions::divide`] would return, and in front of it the place of the part's region. Nothing
     /// changes.
     pub fn dividing(&self, p: u64, at: u64) -> Result<(usize, (u8, u32, u32)), Refusal>
         ensures index { IfOk result (λ told. position (is_part p) self.now ≡ Some told.0) }
@@ -29,8 +29,8 @@ impl Regions {
         Ok((i, told))
     }
 
-    /// Divides the part at the index `i`, as [`Regions::dividing`] told: the regions are those that
-    /// [`Regions::divide`] leaves.
+    /// Divides the part at the place `i`, which [`Regions::dividing`] has returned, and leaves the regions as
+    /// [`Regions::divide`] does.
     pub fn divide_at(&mut self, i: usize, at: u64)
         requires { (p : ℕ) × (told : ℕ × ℕ × ℕ) × (position (is_part p) self.old ≡ Some i) × (divide_answer p at self.old ≡ Ok told) }
         ensures { (p : ℕ) → position (is_part p) self.old ≡ Some i → self.new ≡ divided p at self.old }
@@ -40,8 +40,8 @@ impl Regions {
         put_two(&mut self.list, i, low, high);
     }
 
-    /// Divides the part `p` at a subscriber: it keeps what is below, a new part with the next number has the rest, and
-    /// later parts' numbers rise by one. The answer is the new part's number, and where it begins and ends. Its
+    /// Divides the part `p` at a subscriber: it keeps what is below, a new part with the next number gets the rest, and
+    /// the numbers of later parts rise by one. It returns the new part's number, and where it begins and ends. Its
     /// refusals, in order, are `NoPart`, `OutOfRange` if `at` isn't strictly inside the part, and `ManyParts` if
     /// sixteen parts are there. A refusal changes nothing.
     pub fn divide(&mut self, p: u64, at: u64) -> Result<(u8, u32, u32), Refusal>
@@ -53,8 +53,8 @@ impl Regions {
         Ok(told)
     }
 
-    /// Tells what [`Regions::dissolve`] would answer, and in front of it where the region of the part stands, right
-    /// behind that of the part in front. Nothing changes.
+    /// Returns what [`Regions::dissolve`] would return, and in front of it the place of the part's region, which is
+    /// right behind that of the part in front. Nothing changes.
     pub fn dissolving(&self, p: u64) -> Result<(usize, (u8, u32, u32)), Refusal>
         ensures index { IfOk result (λ told. position (is_part p) self.now ≡ Some told.0) }
         ensures answer { IfOk result (λ told. dissolve_answer p self.now ≡ Ok told.1) }
@@ -71,8 +71,8 @@ impl Regions {
         Ok((i, (p as u8 - 1, regions[i - 1].lo, regions[i].hi)))
     }
 
-    /// Dissolves the part whose index [`Regions::dissolving`] told: the regions are those that [`Regions::dissolve`]
-    /// leaves.
+    /// Dissolves the part at the place that [`Regions::dissolving`] has returned, and leaves the regions as
+    /// [`Regions::dissolve`] does.
     pub fn dissolve_at(&mut self, i: usize)
         requires { (p : ℕ) × (told : ℕ × ℕ × ℕ) × (position (is_part p) self.old ≡ Some i) × (dissolve_answer p self.old ≡ Ok told) }
         ensures { (p : ℕ) → position (is_part p) self.old ≡ Some i → self.new ≡ dissolved p self.old }
@@ -85,9 +85,10 @@ impl Regions {
         put_one(&mut self.list, i, whole);
     }
 
-    /// Dissolves the part `p`: the part in front of it has its range too, and later parts' numbers fall by one. The
-    /// answer is the number of the part in front, and where it begins and ends now. Its refusals, in order, are
-    /// `NoPart` and `NotAdjacent` if `p` is the first part or a loose piece lies between. A refusal changes nothing.
+    /// Dissolves the part `p`: the part in front of it gets its range, and the numbers of later parts fall by one. It
+    /// returns the number of the part in front, and where that begins and ends now. Its refusals, in order, are
+    /// `NoPart` and `NotAdjacent` if `p` is the first part or a loose piece lies in front of it. A refusal changes
+    /// nothing.
     pub fn dissolve(&mut self, p: u64) -> Result<(u8, u32, u32), Refusal>
         ensures answer { result ≡ dissolve_answer p self.old }
         ensures after { self.new ≡ after_dissolve p result self.old }
@@ -98,8 +99,8 @@ impl Regions {
     }
 }
 
-/// Returns what a part with this region and this number answers to a divide: the new part's number, and where it begins
-/// and ends.
+/// Returns the answer of a part with this region and this number to a divide, which is the new part's number, and where
+/// it begins and ends.
 fn divide_answer_of(
     regions: &[Region],
     part: Region,
@@ -118,7 +119,7 @@ fn divide_answer_of(
     Ok((p as u8 + 1, at as u32, part.hi))
 }
 
-/// Returns a part's region cut in two, of which the second is the next part's.
+/// Returns the two halves of a part's region, of which the second is the next part's.
 fn divided(part: Region, at: u32) -> (Region, Region)
     requires { AllByRecursion (λ p. p < 255) (part_number part.place) }
     ensures low { result.0 ≡ record part { hi = at } }

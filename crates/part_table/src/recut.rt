@@ -1,4 +1,4 @@
-//! Which bounds a recut moves, and in which order.
+//! The bounds that a recut moves, and the order in which it moves them.
 ghost use Rattle.std.specs.Prelude.{◌≡◌, ◌+◌, ◌-◌, ◌<◌, ◌≤◌, [], ◌∷◌, ◌++◌, true, Ok, Err, length, IfOk, MatchResult};
 ghost use Rattle.arrayvec.specs.ArrayVec.{array_vec_len};
 ghost use Rattle.part_table.specs.Bounds.{are_rising, parts_between};
@@ -13,10 +13,10 @@ use arrayvec::ArrayVec;
 use tatp_rows::Refusal;
 
 impl Regions {
-    /// Lists the moves that bring the parts to other bounds: those of the bounds that rise, from the last down, and
-    /// then those of the bounds that fall, from the first up, so that each can be done when it comes. Its refusals, in
-    /// order, are `Field` if the bounds aren't strictly rising ones in 2..=16,777,216, one less than there are parts,
-    /// and `Moving` if a piece is loose.
+    /// Lists the moves that bring the parts to other bounds: those of the bounds that rise, from the last to the first,
+    /// and then those of the bounds that fall, from the first to the last. In this order, each move can be done when it
+    /// comes. Its refusals, in order, are `Field` if the bounds don't rise strictly in 2..=16,777,216 or aren't one
+    /// less than there are parts, and `Moving` if a piece is loose.
     pub fn moves_to(&self, bounds: &[u64]) -> Result<ArrayVec<CutMove, 15>, Refusal>
         ensures answer { MatchResult result (λ moves. recut_answer self.now bounds.now ≡ Ok moves.items)
             (λ why. recut_answer self.now bounds.now ≡ Err why) }
@@ -49,7 +49,7 @@ fn push_move(moves: &mut ArrayVec<CutMove, 15>, bound: usize, from: u32, to: u32
     });
 }
 
-/// Returns the moves of the bounds that rise, from the last down.
+/// Returns the moves of the bounds that rise, from the last to the first.
 fn rising_moves(regions: &[Region], bounds: &[u64]) -> ArrayVec<CutMove, 15>
     requires rising { are_rising 1 bounds.now ≡ true }
     requires count { length bounds.now + 1 ≡ length regions.now }
@@ -67,7 +67,7 @@ fn rising_moves(regions: &[Region], bounds: &[u64]) -> ArrayVec<CutMove, 15>
     moves
 }
 
-/// Returns the moves of the bounds that fall, from the first up.
+/// Returns the moves of the bounds that fall, from the first to the last.
 fn falling_moves(regions: &[Region], bounds: &[u64]) -> ArrayVec<CutMove, 15>
     requires rising { are_rising 1 bounds.now ≡ true }
     requires count { length bounds.now + 1 ≡ length regions.now }
@@ -85,7 +85,7 @@ fn falling_moves(regions: &[Region], bounds: &[u64]) -> ArrayVec<CutMove, 15>
     moves
 }
 
-/// Moves, and then others, which fit with them.
+/// Returns moves followed by others, which there must be room for.
 fn joined(mut first: ArrayVec<CutMove, 15>, second: &ArrayVec<CutMove, 15>) -> ArrayVec<CutMove, 15>
     requires { array_vec_len first + array_vec_len second.now ≤ 15 }
     ensures { result.items ≡ first.items ++ second.now.items }

@@ -1,4 +1,4 @@
-//! A region: a range of s_ids, and who holds it.
+//! A region, which is a range of s_ids with the part or the loose piece that has it.
 ghost use Rattle.std.specs.Prelude.{◌≡◌};
 ghost use Rattle.part_table.specs.Region.{is_of_part, is_part, is_piece};
 
@@ -10,17 +10,17 @@ pub const END: u32 = LAST_SUBSCRIBER + 1;
 // Definitions name these constants, so their numbers are proved here.
 const _: () = prove!(END == 16_777_217);
 
-/// The most parts that there can be.
+/// The greatest number of parts.
 pub const MOST_PARTS: u8 = 16;
 
 const _: () = prove!(MOST_PARTS == 16);
 
-/// The most loose pieces that there can be.
+/// The greatest number of loose pieces.
 pub const MOST_PIECES: u8 = 16;
 
 const _: () = prove!(MOST_PIECES == 16);
 
-/// Who holds a region.
+/// The part or the loose piece that has a region.
 #[derive(Clone, Copy, Debug, PartialEq, Eq)]
 pub enum Place {
     /// The part with this number, 0..=15.
@@ -29,7 +29,7 @@ pub enum Place {
     Piece(u8),
 }
 
-/// The first part: what an array of regions holds where it has none.
+/// The first part, which fills the unused places of an array of regions.
 impl Default for Place {
     ghost use Rattle.std.specs.Prelude.{◌≡◌};
     ghost use Rattle.part_table.specs.declared.region.Place.TheVariants.{Part};
@@ -50,14 +50,14 @@ pub enum Side {
     High,
 }
 
-/// A range `lo..hi` of s_ids (`hi` excluded), and who holds it.
+/// A range `lo..hi` of s_ids, where `hi` is excluded, and the part or the loose piece that has it.
 #[derive(Clone, Copy, Debug, Default, PartialEq, Eq)]
 pub struct Region {
     /// The first s_id, 1..=16,777,216.
     pub lo: u32,
     /// The number behind the last s_id, at most 16,777,217.
     pub hi: u32,
-    /// Who holds the range.
+    /// The part or the loose piece that has the range.
     pub place: Place,
 }
 

@@ -1,4 +1,4 @@
-//! The regions of all s_ids, and what gives and takes do to them.
+//! The regions of all s_ids, and their changes by gives and takes.
 ghost use Rattle.std.specs.Prelude.{◌≡◌, ◌<◌, ◌≤◌, ℕ, Some, IfOk, IfErr, count_by, length, position};
 ghost use Rattle.part_table.specs.Give.{answer_of_part, give_answer, after_give, cut, second_index};
 ghost use Rattle.part_table.specs.Numbered.{over_ranges};
@@ -17,10 +17,10 @@ use arrayvec::ArrayVec;
 use std::marker::Model;
 use tatp_rows::{GREATEST_WIDTH, Refusal};
 
-/// The regions of all s_ids in order, each of a part or of a loose piece: seen as their list.
+/// The regions of all s_ids in order, each of a part or of a loose piece, seen as their list.
 ///
-/// Each s_id of 1..=16,777,216 lies in one region. There are 1 to 16 parts, numbered from 0 in order, and at most 16
-/// loose pieces, each with a number of 1..=16 of its own.
+/// Each s_id of 1..=16,777,216 is in exactly one region. There are 1 to 16 parts, numbered from 0 in order, and at most
+/// 16 loose pieces, each with a number of its own in 1..=16.
 #[derive(Debug, Drop)]
 pub struct Regions {
     pub(crate) list: ArrayVec<Region, 32>,
@@ -40,7 +40,7 @@ impl Model for Regions {
 
 impl Regions {
     /// Makes the regions of so many parts at opening, where each has its share of the 32 zones of a width. It returns
-    /// `Field` if parts isn't 1..=16 or the width isn't 1..=524,288.
+    /// `Field` if parts isn't in 1..=16 or the width isn't in 1..=524,288.
     pub fn opening(parts: u8, width: u32) -> Result<Regions, Refusal>
         ensures { result ≡ opening parts width }
     {
@@ -67,9 +67,9 @@ impl Regions {
     }
 
     /// Makes the regions over the ranges of 1 to 16 parts and at most 16 loose pieces, which are numbered anew in their
-    /// order: the parts from 0, the pieces from 1. It returns `NotAdjacent` if the first doesn't begin at 1, one is
-    /// empty or begins elsewhere than the one before it ends, or the last doesn't end at 16,777,217. It takes no
-    /// memory.
+    /// order, the parts from 0 and the pieces from 1. It returns `NotAdjacent` if the first range doesn't begin at 1,
+    /// if one is empty or doesn't begin where the one before it ends, or if the last doesn't end at 16,777,217. It
+    /// takes no memory.
     pub fn over(ranges: &[Region]) -> Result<Regions, Refusal>
         requires some { 1 ≤ length (parts_of ranges.now) }
         requires parts { length (parts_of ranges.now) ≤ MOST_PARTS }
@@ -110,7 +110,7 @@ impl Regions {
         count_parts(self.list()) as u8
     }
 
-    /// Finds where the region stands in which an s_id of 1..=16,777,216 lies.
+    /// Finds the place of the region that has an s_id of 1..=16,777,216.
     pub fn index(&self, s_id: u32) -> usize
         requires from { 1 ≤ s_id }
         requires to { s_id < END }
@@ -122,14 +122,14 @@ impl Regions {
         }
     }
 
-    /// Finds where the region of the part `p` stands, if there is such a part.
+    /// Finds the place of the part `p`, if there is such a part.
     pub fn index_of_part(&self, p: u64) -> Option<usize>
         ensures { result ≡ position (is_part p) self.now }
     {
         part_at(self.list(), p)
     }
 
-    /// Tells who holds an s_id of 1..=16,777,216.
+    /// Returns the part or the loose piece that has an s_id of 1..=16,777,216.
     pub fn place(&self, s_id: u32) -> Place
         requires from { 1 ≤ s_id }
         requires to { s_id < END }
@@ -139,8 +139,8 @@ impl Regions {
         self.list()[self.index(s_id)].place
     }
 
-    /// Tells what [`Regions::give`] would answer: the number of the new loose piece, and where it begins and ends; or
-    /// `NoPart`, `OutOfRange` or `ManyPieces`, the first that holds. Nothing changes.
+    /// Returns what [`Regions::give`] would return, which is the number of the new loose piece, and where it begins and
+    /// ends, or the first refusal that applies of `NoPart`, `OutOfRange` and `ManyPieces`. Nothing changes.
     pub fn give_answer(&self, p: u64, side: Side, at: u64) -> Result<(u8, u32, u32), Refusal>
         ensures { result ≡ give_answer p side at self.now }
     {
@@ -148,7 +148,7 @@ impl Regions {
         Ok(piece)
     }
 
-    /// Tells what [`Regions::give_answer`] answers, and in front of it where the region of the part stands. Nothing
+    /// Returns what [`Regions::give_answer`] returns, and in front of it the place of the part's region. Nothing
     /// changes.
     pub fn giving(&self, p: u64, side: Side, at: u64) -> Result<(usize, (u8, u32, u32)), Refusal>
         ensures index { IfOk result (λ told. position (is_part p) self.now ≡ Some told.0) }
@@ -163,8 +163,8 @@ impl Regions {
         Ok((i, piece))
     }
 
-    /// Gives away a stretch of the part at the index `i`, as [`Regions::giving`] told: the regions are those that
-    /// [`Regions::give`] leaves.
+    /// Cuts a piece off the part at the place `i`, which [`Regions::giving`] has returned with the piece, and leaves
+    /// the regions as [`Regions::give`] does.
     pub fn give_at(&mut self, i: usize, side: Side, at: u64, piece: (u8, u32, u32))
         requires { (p : ℕ) × (position (is_part p) self.old ≡ Some i) × (give_answer p side at self.old ≡ Ok piece) }
         ensures { (p : ℕ) → position (is_part p) self.old ≡ Some i → self.new ≡ cut p piece.0 side at self.old }
@@ -173,8 +173,8 @@ impl Regions {
         put_two(&mut self.list, i, low, high);
     }
 
-    /// Tells what [`Regions::take`] would answer: the side of the part on which the loose piece lies; or `NoPiece`,
-    /// `NoPart` or `NotAdjacent`, the first that holds. Nothing changes.
+    /// Returns what [`Regions::take`] would return, which is the side of the part on which the loose piece lies, or the
+    /// first refusal that applies of `NoPiece`, `NoPart` and `NotAdjacent`. Nothing changes.
     pub fn take_answer(&self, n: u64, q: u64) -> Result<Side, Refusal>
         ensures { result ≡ take_answer n q self.now }
     {
@@ -182,8 +182,8 @@ impl Regions {
         Ok(side)
     }
 
-    /// Tells what [`Regions::take_answer`] answers, and in front of it where the region of the loose piece stands.
-    /// Nothing changes.
+    /// Returns what [`Regions::take_answer`] returns, and in front of it the place of the loose piece's region. Nothing
+    /// changes.
     pub fn taking(&self, n: u64, q: u64) -> Result<(usize, Side), Refusal>
         ensures index { IfOk result (λ told. position (is_piece n) self.now ≡ Some told.0) }
         ensures answer { IfOk result (λ told. take_answer n q self.now ≡ Ok told.1) }
@@ -200,8 +200,8 @@ impl Regions {
         Ok((i, side))
     }
 
-    /// Joins to the part the loose piece whose index and side [`Regions::taking`] told: the regions are those that
-    /// [`Regions::take`] leaves.
+    /// Joins to the part the loose piece whose place and side [`Regions::taking`] has returned, and leaves the regions
+    /// as [`Regions::take`] does.
     pub fn take_at(&mut self, i: usize, side: Side)
         requires { (n q : ℕ) × (position (is_piece n) self.old ≡ Some i) × (take_answer n q self.old ≡ Ok side) }
         ensures { (n q : ℕ) → position (is_piece n) self.old ≡ Some i → take_answer n q self.old ≡ Ok side → self.new ≡ joined n q self.old }
@@ -213,10 +213,10 @@ impl Regions {
         put_one(&mut self.list, second, whole);
     }
 
-    /// Gives away the stretch of the part `p` on one side of `at`: from `at` on where the side is high, below it where
-    /// it is low. The stretch becomes a loose piece with the least number of 1..=16 that is free; the answer is that
-    /// number, and where the piece begins and ends. Its refusals, in order, are `NoPart`, `OutOfRange` if `at` isn't
-    /// strictly inside the part, and `ManyPieces` if sixteen pieces are loose. A refusal changes nothing.
+    /// Cuts a loose piece off the part `p`: everything from `at` on if the side is high, or everything below it if the
+    /// side is low. The piece gets the least free number of 1..=16. It returns the number, and where the piece begins
+    /// and ends. Its refusals, in order, are `NoPart`, `OutOfRange` if `at` isn't strictly inside the part, and
+    /// `ManyPieces` if sixteen pieces are loose. A refusal changes nothing.
     pub fn give(&mut self, p: u64, side: Side, at: u64) -> Result<(u8, u32, u32), Refusal>
         ensures answer { result ≡ give_answer p side at self.old }
         ensures after { self.new ≡ after_give p side at result self.old }
@@ -226,9 +226,8 @@ impl Regions {
         Ok(piece)
     }
 
-    /// Joins to the part `q` the loose piece `n`, which has to touch it; the answer is the side of the part on which
-    /// the piece lies. Its refusals, in order, are `NoPiece` and `NoPart`, then `NotAdjacent`. A refusal changes
-    /// nothing.
+    /// Joins to the part `q` the loose piece `n`, which has to touch it, and returns the side of the part on which the
+    /// piece lay. Its refusals, in order, are `NoPiece`, `NoPart`, and `NotAdjacent`. A refusal changes nothing.
     pub fn take(&mut self, n: u64, q: u64) -> Result<Side, Refusal>
         ensures answer { result ≡ take_answer n q self.old }
         ensures after { self.new ≡ after_take n q result self.old }
@@ -246,8 +245,8 @@ pub fn can_open(parts: u8, width: u32) -> bool
     1 <= parts && parts <= MOST_PARTS && 1 <= width && width <= GREATEST_WIDTH
 }
 
-/// Returns what a part with this region answers to a give: the number of the new loose piece, and where it begins and
-/// ends.
+/// Returns the answer of a part with this region to a give, which is the number of the new loose piece, and where it
+/// begins and ends.
 fn answer_of(
     regions: &[Region],
     part: Region,
@@ -265,14 +264,14 @@ fn answer_of(
     Ok((n, lo, hi))
 }
 
-/// Returns what a take of a loose piece by a part with these regions answers.
+/// Returns the answer to a take of a loose piece by a part, given both regions.
 fn side_of_both(piece: Region, part: Region) -> Result<Side, Refusal>
     ensures { result ≡ answer_of_both (Some piece) (Some part) }
 {
     touching(piece, part).ok_or(Refusal::NotAdjacent)
 }
 
-/// Returns the index of the second of two neighbours, by that of the piece that lies on one side of the part.
+/// Returns the place of the second of two neighbours, given the place of the piece that lies on one side of the part.
 fn second_index(side: Side, i: usize) -> usize
     requires { i < 32 }
     ensures { result ≡ second_index side i }
@@ -283,7 +282,7 @@ fn second_index(side: Side, i: usize) -> usize
     }
 }
 
-/// Returns the side of a part on which a piece lies, where their ranges touch.
+/// Returns the side of a part on which a piece lies, if their ranges touch.
 fn touching(piece: Region, part: Region) -> Option<Side>
     ensures { result ≡ touching piece part }
 {

@@ -58,7 +58,7 @@ impl FacilityRows for &Part {
 }
 
 /// Returns the numbers of the forwardings of an active facility that start by one hour and end after another, in the
-/// order of their start times. There are at most three, and none if the facility isn\'t active.
+/// order of their start times. There are at most three, and none if the facility isn't active.
 #[inline(always)]
 pub(crate) fn find_destinations<F: FacilityRows>(
     rows: &mut F,

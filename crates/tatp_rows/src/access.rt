@@ -1,4 +1,4 @@
-//! Rows of the table Access_Info.
+//! The rows of the table Access_Info.
 ghost use Rattle.std.specs.Prelude.{◌≡◌, IsTrue, replicate};
 ghost use Rattle.tatp_rows.specs.Rows.{AccessInfoRow, access_in_range, access_of};
 ghost use Rattle.tatp_rows.specs.Keys.{access_key};
@@ -61,7 +61,7 @@ impl Default for Access {
       data4 = replicate 5 65;
     } };
 
-    /// Makes the row that stands in unused places: the least value of each field.
+    /// Makes the row for unused places, with the least value of each field.
     fn default() -> Self {
         Access {
             s_id: 1,
@@ -75,8 +75,8 @@ impl Default for Access {
 }
 
 impl Access {
-    /// Makes the row with these fields, in TATP's order; `Field` if one is lent of its range: s_id 1..=16,777,216,
-    /// ai_type 1..=4.
+    /// Makes the row with these fields, in TATP's order. It returns `Field` if one is out of its range: s_id
+    /// 1..=16,777,216, ai_type 1..=4.
     pub fn try_new(
         s_id: u64,
         ai_type: u64,
@@ -96,7 +96,7 @@ impl Access {
     {
         let s_id = in_range(s_id, LAST_SUBSCRIBER)?;
         let ai_type = byte_in_range(ai_type, 4)?;
-        // Letters are in range, as their reader says.
+        // For the prover: letters are in range, as their reader says.
         let _three = data3.bytes();
         let _five = data4.bytes();
         Ok(Access {
@@ -132,28 +132,28 @@ impl Access {
         self.ai_type
     }
 
-    /// Gives data1, 0..=255.
+    /// Returns data1, 0..=255.
     pub fn data1(&self) -> u8
         ensures { result ≡ self.now.data1 }
     {
         self.data1
     }
 
-    /// Gives data2, 0..=255.
+    /// Returns data2, 0..=255.
     pub fn data2(&self) -> u8
         ensures { result ≡ self.now.data2 }
     {
         self.data2
     }
 
-    /// Gives data3, three letters A to Z.
+    /// Returns data3, three letters A to Z.
     pub fn data3(&self) -> Letters<3>
         ensures { result ≡ self.now.data3 }
     {
         self.data3
     }
 
-    /// Gives data4, five letters A to Z.
+    /// Returns data4, five letters A to Z.
     pub fn data4(&self) -> Letters<5>
         ensures { result ≡ self.now.data4 }
     {

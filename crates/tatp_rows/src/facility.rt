@@ -1,4 +1,4 @@
-//! Rows of the table Special_Facility.
+//! The rows of the table Special_Facility.
 ghost use Rattle.std.specs.Prelude.{◌≡◌, ◌==◌, IsTrue, replicate, if◌then◌else◌};
 ghost use Rattle.tatp_rows.specs.Rows.{SpecialFacilityRow, facility_in_range, facility_of};
 ghost use Rattle.tatp_rows.specs.Keys.{facility_key};
@@ -61,7 +61,7 @@ impl Default for Facility {
       data_b = replicate 5 65;
     } };
 
-    /// Makes the row that stands in unused places: the least value of each field.
+    /// Makes the row for unused places, with the least value of each field.
     fn default() -> Self {
         Facility {
             s_id: 1,
@@ -75,8 +75,8 @@ impl Default for Facility {
 }
 
 impl Facility {
-    /// Makes the row with these fields, in TATP's order; `Field` if one is lent of its range: s_id 1..=16,777,216,
-    /// sf_type 1..=4, is_active 0..=1.
+    /// Makes the row with these fields, in TATP's order. It returns `Field` if one is out of its range: s_id
+    /// 1..=16,777,216, sf_type 1..=4, is_active 0..=1.
     pub fn try_new(
         s_id: u64,
         sf_type: u64,
@@ -99,7 +99,7 @@ impl Facility {
         if is_active > 1 {
             return Err(Refusal::Field);
         }
-        // Letters are in range, as their reader says.
+        // For the prover: letters are in range, as their reader says.
         let _letters = data_b.bytes();
         Ok(Facility {
             s_id,
@@ -111,7 +111,7 @@ impl Facility {
         })
     }
 
-    /// Returns the row with is_active 1 or 0.
+    /// Returns the row with is_active set to 1 or 0.
     pub fn with_is_active(self, is_active: bool) -> Self
         ensures { result ≡ record self { is_active = if is_active then 1 else 0 } }
     {
@@ -158,21 +158,21 @@ impl Facility {
         self.is_active == 1
     }
 
-    /// Gives error_cntrl, 0..=255.
+    /// Returns error_cntrl, 0..=255.
     pub fn error_cntrl(&self) -> u8
         ensures { result ≡ self.now.error_cntrl }
     {
         self.error_cntrl
     }
 
-    /// Gives data_a, 0..=255.
+    /// Returns data_a, 0..=255.
     pub fn data_a(&self) -> u8
         ensures { result ≡ self.now.data_a }
     {
         self.data_a
     }
 
-    /// Gives data_b, five letters A to Z.
+    /// Returns data_b, five letters A to Z.
     pub fn data_b(&self) -> Letters<5>
         ensures { result ≡ self.now.data_b }
     {

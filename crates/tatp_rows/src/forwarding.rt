@@ -1,4 +1,4 @@
-//! Rows of the table Call_Forwarding.
+//! The rows of the table Call_Forwarding.
 ghost use Rattle.std.specs.Prelude.{◌≡◌, IsTrue};
 ghost use Rattle.tatp_rows.specs.Rows.{CallForwardingRow, forwarding_in_range, forwarding_of};
 ghost use Rattle.tatp_rows.specs.Keys.{forwarding_key};
@@ -56,7 +56,7 @@ impl Default for Forwarding {
       numberx = 0;
     } };
 
-    /// Makes the row that stands in unused places: the least value of each field.
+    /// Makes the row for unused places, with the least value of each field.
     fn default() -> Self {
         Forwarding {
             s_id: 1,
@@ -69,8 +69,8 @@ impl Default for Forwarding {
 }
 
 impl Forwarding {
-    /// Makes the row with these fields, in TATP's order; `Field` if one is lent of its range: s_id 1..=16,777,216,
-    /// sf_type 1..=4, start_time 0, 8 or 16, end_time 1..=24. The end may lie before the start.
+    /// Makes the row with these fields, in TATP's order. It returns `Field` if one is out of its range: s_id
+    /// 1..=16,777,216, sf_type 1..=4, start_time 0, 8 or 16, end_time 1..=24. The end may lie before the start.
     pub fn try_new(
         s_id: u64,
         sf_type: u64,
@@ -133,14 +133,14 @@ impl Forwarding {
         self.start_time
     }
 
-    /// Returns the hour at which that ends, 1..=24.
+    /// Returns the hour at which the forwarding ends, 1..=24.
     pub fn end_time(&self) -> u8
         ensures { result ≡ self.now.end_time }
     {
         self.end_time
     }
 
-    /// Returns the number that calls are forwarded to.
+    /// Returns the number to which calls are forwarded.
     pub fn numberx(&self) -> Number
         ensures { result ≡ self.now.numberx }
     {

@@ -1,8 +1,8 @@
-//! The keys of the rows: a subscriber's rows have consecutive keys, and subscribers follow by their s_id.
+//! The keys of the rows. A subscriber's rows have consecutive keys, and subscribers follow in the order of their s_id.
 ghost use Rattle.std.specs.Prelude.{◌≡◌};
 ghost use Rattle.tatp_rows.specs.Keys.{key_of};
 
-/// Returns the key of the row with this s_id, type and start time; the parts that a table lacks are 0.
+/// Returns the key of the row with this s_id, type and start time, where a field that a table lacks is 0.
 pub fn row_key(s_id: u32, kind: u8, start_time: u8) -> u64
     ensures { result ≡ key_of s_id kind start_time }
 {

@@ -34,7 +34,7 @@ impl<const N: usize> Default for Letters<N> {
 }
 
 impl<const N: usize> Letters<N> {
-    /// Makes the letters with these bytes; `Field` if one isn't one of A to Z.
+    /// Makes the letters with these bytes. It returns `Field` if one of them isn't in A to Z.
     pub fn try_new(bytes: [u8; N]) -> Result<Self, Refusal>
         ensures { result ≡ letters_in N bytes.entry }
     {
@@ -44,7 +44,7 @@ impl<const N: usize> Letters<N> {
         Ok(Letters { bytes })
     }
 
-    /// Reads exactly `N` ASCII letters A to Z; `Field` if the text is anything else.
+    /// Reads exactly `N` ASCII letters A to Z. It returns `Field` if the text is anything else.
     pub fn from_bytes(text: &[u8]) -> Result<Self, Refusal>
         ensures { result ≡ letters_in N text.now }
     {

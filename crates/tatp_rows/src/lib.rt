@@ -1,6 +1,7 @@
-//! The rows of the TATP tables (TATP's description, sections 2.1 to 2.4): their fields, numbers, letters and keys, and
-//! the refusals of the store. A call looks at the fields of one row and takes no memory. The ranges of the fields are
-//! this project's own choice, and keys pack fields by them: a range that grows needs another packing.
+//! The rows of the TATP tables (TATP's description, sections 2.1 to 2.4), with their fields, numbers, letters and keys,
+//! and the refusals of the store. A call looks at the fields of one row and takes no memory. The ranges of the fields
+//! are this project's own choice, and keys pack the fields by these ranges, so a range that grows needs another
+//! packing.
 #![tactic(auto)]
 
 mod access;

@@ -38,7 +38,8 @@ fn are_digits(bytes: u8x8) -> bool
         == 0
 }
 
-/// Returns the number that eight ASCII digits spell. As a word they are joined by twos, then by fours, then all.
+/// Returns the number that eight ASCII digits spell. The digits are joined within one word: by twos, then by fours, and
+/// then all.
 #[inline(always)]
 fn eight_digits(text: [u8; 8]) -> u64
     requires { list_all is_ascii_digit text ≡ true }
@@ -51,7 +52,7 @@ fn eight_digits(text: [u8; 8]) -> u64
 }
 
 impl Number {
-    /// Makes the number of this value; `Field` if it has more than 15 digits.
+    /// Makes the number of this value. It returns `Field` if it has more than 15 digits.
     pub fn try_new(value: u64) -> Result<Self, Refusal>
         ensures { result ≡ number_of value }
     {
@@ -62,7 +63,7 @@ impl Number {
         }
     }
 
-    /// Reads exactly 15 ASCII digits; `Field` if the text is anything else.
+    /// Reads exactly 15 ASCII digits. It returns `Field` if the text is anything else.
     pub fn from_digits(text: &[u8]) -> Result<Self, Refusal>
         ensures { result ≡ number_in text.now }
     {

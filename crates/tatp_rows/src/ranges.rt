@@ -1,4 +1,4 @@
-//! The greatest numbers of a store, and the tests of the fields' ranges.
+//! The greatest numbers of a store, and the checks of the fields' ranges.
 ghost use Rattle.std.specs.Prelude.{◌≡◌};
 ghost use Rattle.tatp_rows.specs.Rows.{between, is_between, are_between, is_start_time};
 
@@ -10,12 +10,12 @@ pub const LAST_SUBSCRIBER: u32 = 16_777_216;
 // Definitions name these constants, so their numbers are proved here.
 const _: () = prove!(LAST_SUBSCRIBER == 16_777_216);
 
-/// The greatest width of the zones, with which all 32 of them are alike.
+/// The greatest zone width, with which all 32 zones are equally wide.
 pub const GREATEST_WIDTH: u32 = 524_288;
 
 const _: () = prove!(GREATEST_WIDTH == 524_288);
 
-/// Returns the value, where it lies in 1..=`high`; else `Field`.
+/// Returns the value if it is in 1..=`high`, and `Field` otherwise.
 pub fn in_range(value: u64, high: u32) -> Result<u32, Refusal>
     ensures { result ≡ between 1 high value }
 {
@@ -25,7 +25,7 @@ pub fn in_range(value: u64, high: u32) -> Result<u32, Refusal>
     Ok(value as u32)
 }
 
-/// Returns the value as a byte, where it lies in 1..=`high`; else `Field`.
+/// Returns the value as a byte if it is in 1..=`high`, and `Field` otherwise.
 pub fn byte_in_range(value: u64, high: u8) -> Result<u8, Refusal>
     ensures { result ≡ between 1 high value }
 {

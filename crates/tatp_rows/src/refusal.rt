@@ -1,13 +1,14 @@
-//! What the store answers where it refuses.
+//! The refusals of the store.
 ghost use Rattle.std.specs.Prelude.{◌≡◌};
 ghost use Rattle.tatp_rows.specs.Refusal.{code_of, name_of};
 
 use std::alloc::{AllocError, AllocFailed};
 
-/// Why the store refused. A refusal changes nothing, but for `Worn`, after which the cells posted before stand.
+/// The reason why the store refused a request. A refusal changes nothing, except that after `Worn` the cells that were
+/// posted before stay posted.
 #[derive(Clone, Copy, Debug, PartialEq, Eq)]
 pub enum Refusal {
-    /// A growth of memory was refused.
+    /// The system refused memory.
     Memory,
     /// A field's text or value is out of its range.
     Field,
@@ -21,13 +22,13 @@ pub enum Refusal {
     NoFacility,
     /// No Call_Forwarding row has the key.
     NoForwarding,
-    /// No forwarding meets the query.
+    /// No forwarding of an active facility takes the call.
     NoDestination,
-    /// A row with the key is there.
+    /// A row with the key is there already.
     Exists,
     /// Another subscriber has the number.
     NumberTaken,
-    /// The s_id lies in a loose piece; of a recut: a piece is loose.
+    /// The subscriber is in a loose piece; for a recut, some piece is loose.
     Moving,
     /// No part has the number.
     NoPart,
@@ -35,21 +36,21 @@ pub enum Refusal {
     NoPiece,
     /// The cut isn't strictly inside the part.
     OutOfRange,
-    /// The piece doesn't touch the part.
+    /// The piece doesn't touch the part; for a dissolve, no part ends where this one begins.
     NotAdjacent,
-    /// Sixteen pieces are loose.
+    /// Sixteen pieces are loose already.
     ManyPieces,
     /// A word of the board would pass 9223372036854775807.
     Worn,
-    /// A thread's start was refused.
+    /// The system refused to start a thread.
     Thread,
-    /// No command has this form.
+    /// The record has no form of a command.
     Syntax,
-    /// The reader failed, or gave more than 1,048,576 records.
+    /// The reader failed, or had more than 1,048,576 records.
     Read,
     /// The writer failed.
     Write,
-    /// Sixteen parts are there.
+    /// Sixteen parts are there already.
     ManyParts,
 }
 
@@ -115,7 +116,7 @@ impl Refusal {
     }
 }
 
-/// A growth of memory that was refused is `Memory`.
+/// Makes the refusal `Memory` of the error that the system refused memory.
 impl From<AllocError> for Refusal {
     ghost use Rattle.std.specs.Prelude.{◌≡◌};
     ghost use Rattle.tatp_rows.specs.declared.refusal.Refusal.TheVariants.{Memory};
@@ -127,7 +128,7 @@ impl From<AllocError> for Refusal {
     }
 }
 
-/// The same where a value was handed back, which is let go.
+/// Makes the same refusal of an error that hands a value back, which is dropped.
 impl<T: Drop> From<AllocFailed<T>> for Refusal {
     ghost use Rattle.std.specs.Prelude.{◌≡◌};
     ghost use Rattle.tatp_rows.specs.declared.refusal.Refusal.TheVariants.{Memory};
@@ -139,16 +140,16 @@ impl<T: Drop> From<AllocFailed<T>> for Refusal {
     }
 }
 
-/// A refusal of a call that was given a value: why, and the value handed back as it was.
+/// The refusal of a call that was given a value, which it hands back as it was.
 #[derive(Clone, Copy, Debug, PartialEq, Eq, Drop)]
 pub struct Back<T> {
-    /// Why the call refused.
+    /// The reason why the call refused.
     pub why: Refusal,
-    /// What the call was given.
+    /// The value that the call was given.
     pub item: T,
 }
 
-/// Why a call refused what it was given, which is let go; so `?` hands on the reason alone.
+/// Returns the reason alone and drops the value, so that `?` can pass the reason on.
 impl<T: Drop> From<Back<T>> for Refusal {
     ghost use Rattle.std.specs.Prelude.{◌≡◌};
 

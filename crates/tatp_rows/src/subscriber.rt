@@ -1,4 +1,4 @@
-//! Rows of the table Subscriber.
+//! The rows of the table Subscriber.
 ghost use Rattle.std.specs.Prelude.{◌≡◌, ◌≤◌, ◌<◌, ◌^◌, IsTrue, replicate, slice_index, slice_set};
 ghost use Rattle.std.specs.List.{EachIndex};
 ghost use Rattle.tatp_rows.specs.Packed.{packed, unpacked};
@@ -15,12 +15,12 @@ use std::marker::Model;
 #[derive(Clone, Copy, Debug, PartialEq, Eq)]
 pub struct Subscriber {
     sub_nbr: Number,
-    // hex_1 lies in the lowest four bits.
+    // The hexadecimal digits, with hex_1 in the lowest four bits.
     hexes: u64,
     s_id: u32,
     msc_location: u32,
     vlr_location: u32,
-    // bit_1 is the lowest one.
+    // The bits, with bit_1 as the lowest one.
     bits: u16,
     bytes: [u8; 10],
 }
@@ -74,7 +74,7 @@ impl Model for Subscriber {
     } };
 }
 
-/// Digits to a base, packed in one number, the first one lowest.
+/// Packs ten digits to a base into one number, with the first digit as the lowest.
 #[inline(always)]
 fn pack(digits: &[u8; 10], base: u64) -> u64
     requires base { (2 ≤ base) × (base ≤ 16) }
@@ -115,7 +115,7 @@ impl Default for Subscriber {
       vlr_location = 1;
     } };
 
-    /// Makes the row that stands in unused places: the least value of each field.
+    /// Makes the row for unused places, with the least value of each field.
     fn default() -> Self {
         Subscriber {
             sub_nbr: Number::default(),
@@ -130,8 +130,8 @@ impl Default for Subscriber {
 }
 
 impl Subscriber {
-    /// Makes the row with these fields, in TATP's order; `Field` if one is lent of its range: s_id 1..=16,777,216, bits
-    /// 0..=1, hexes 0..=15, both locations 1..=4,294,967,295.
+    /// Makes the row with these fields, in TATP's order. It returns `Field` if one is out of its range: s_id
+    /// 1..=16,777,216, bits 0..=1, hexes 0..=15, both locations 1..=4,294,967,295.
     pub fn try_new(
         s_id: u64,
         sub_nbr: Number,
@@ -225,21 +225,21 @@ impl Subscriber {
         self.sub_nbr
     }
 
-    /// Gives bit_1 to bit_10, each 0 or 1.
+    /// Returns bit_1 to bit_10, each 0 or 1.
     pub fn bits(&self) -> [u8; 10]
         ensures { result ≡ self.now.bits }
     {
         unpack(u64::from(self.bits), 2)
     }
 
-    /// Gives hex_1 to hex_10, each 0..=15.
+    /// Returns hex_1 to hex_10, each 0..=15.
     pub fn hexes(&self) -> [u8; 10]
         ensures { result ≡ self.now.hexes }
     {
         unpack(self.hexes, 16)
     }
 
-    /// Gives byte2_1 to byte2_10.
+    /// Returns byte2_1 to byte2_10.
     pub fn bytes(&self) -> [u8; 10]
         ensures { result ≡ self.now.bytes }
     {

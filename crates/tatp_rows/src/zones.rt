@@ -1,9 +1,9 @@
-//! The two divisions by which rows are counted: areas of locations, and zones of subscribers.
+//! The two divisions by which rows are counted: the areas of locations, and the zones of subscribers.
 ghost use Rattle.std.specs.Prelude.{◌≡◌};
 ghost use Rattle.tatp_rows.specs.Zones.{zone_of, area_of};
 
-/// Finds the zone of a subscriber, 0..=31: zones are `width` subscribers wide, and the last has all that are left. An
-/// s_id of 0 counts as 1, and a width of 0 gives zone 0.
+/// Finds the zone of a subscriber, 0..=31. Zones are `width` subscribers wide, and the last one has all that are left.
+/// An s_id of 0 counts as 1, and a width of 0 gives zone 0.
 pub fn zone(s_id: u32, width: u32) -> u8
     ensures { result ≡ zone_of width s_id }
 {
@@ -13,7 +13,7 @@ pub fn zone(s_id: u32, width: u32) -> u8
     (s_id.saturating_sub(1) / width).min(31) as u8
 }
 
-/// Finds the area of a location, 0..=15: its four highest bits.
+/// Finds the area of a location, 0..=15, which is its four highest bits.
 pub fn area(vlr_location: u32) -> u8
     ensures { result ≡ area_of vlr_location }
 {

@@ -14,7 +14,7 @@ use std::alloc::Global;
 use std::marker::{Brand, Model};
 use tatp_rows::Refusal;
 
-/// The words, which threads share. Contracts see it as which board it is.
+/// The words, which threads share. Contracts see it only as which board it is.
 #[derive(Drop)]
 pub struct Board {
     table: Table<(), View, [u64; WORDS], OwnWords, Global>,
@@ -36,8 +36,8 @@ impl Model for Board {
 }
 
 impl Board {
-    /// Opens a board of these words, and a desk that owns all of it. It returns `Field` if a word passes `LIMIT`, else
-    /// `Memory` if the system refuses memory.
+    /// Opens a board of these words, and a desk that owns all of it. It returns `Field` if a word passes `LIMIT`, and
+    /// otherwise `Memory` if the system refuses memory.
     pub fn open(alloc: Global, words: &[u64; WORDS]) -> Result<(Board, Desk), Refusal>
         ensures ok { IfOk result (λ opened. AreSmall words.now × (opened.1.board ≡ opened.0) × (opened.1.view ≡ first_view words.now)) }
         ensures err { IfErr result (λ why. ((why ≡ Refusal.Field) × HasGreat words.now) ⊎ ((why ≡ Refusal.Memory) × AreSmall words.now)) }
@@ -59,10 +59,10 @@ impl Board {
         Ok((Board { table, alloc }, desk))
     }
 
-    /// Raises the plus-word of an own slot and a cell below `CELLS` by a positive amount, or its minus-word by the size
-    /// of a negative one, in one step, so that no look sees a part of the amount; an amount of 0 raises nothing, in no
-    /// step. `Worn` exactly where the word would pass `LIMIT`, as by the least `i64` always, and then nothing has
-    /// changed.
+    /// Raises a word of one of the desk's slots and a cell below `CELLS`: the plus-word by a positive amount, or the
+    /// minus-word by the size of a negative one. It does so in one step, so that no look sees a part of the amount. An
+    /// amount of 0 raises nothing, in no step. It returns `Worn` exactly if the word would pass `LIMIT`, which the
+    /// least `i64` always does, and then nothing has changed.
     pub fn add(&self, desk: &mut Desk, slot: u8, cell: u8, amount: i64) -> Result<(), Refusal>
         requires board { desk.old.board ≡ self.now }
         requires own { Owns desk.old.view slot }
@@ -91,8 +91,9 @@ impl Board {
         }
     }
 
-    /// Takes back what an own slot has published: the lower of each cell's two words is raised to the higher, in one
-    /// step, and a cell whose words are equal takes none. Then the slot has a net of 0 in each cell; no word can wear.
+    /// Takes back what one of the desk's slots has published: for each cell, the lower of the two words is raised to
+    /// the higher one, in one step, and a cell whose words are equal takes none. Afterwards the slot has a net of 0 for
+    /// each cell. No word can pass its limit this way.
     pub fn take_back(&self, desk: &mut Desk, slot: u8)
         requires board { desk.old.board ≡ self.now }
         requires own { Owns desk.old.view slot }
@@ -106,7 +107,7 @@ impl Board {
         }
     }
 
-    /// Raises the lower of the two words of a cell to the higher.
+    /// Raises the lower of the two words of a cell to the higher one.
     fn level(&self, desk: &mut Desk, slot: u8, cell: u8)
         requires board { desk.old.board ≡ self.now }
         requires own { Owns desk.old.view slot }
@@ -119,8 +120,9 @@ impl Board {
         };
     }
 
-    /// Looks at all words, one after another, while others may raise theirs: own words are exact, each other one is at
-    /// least what the desk has seen of it, and none passes `LIMIT`. Then the sight is what the desk has seen.
+    /// Looks at all words, one after another, while other desks may raise theirs. The desk's own words are exact, each
+    /// other word is at least what the desk has seen of it, and none passes `LIMIT`. Afterwards the sight is what the
+    /// desk has seen.
     pub fn look(&self, desk: &mut Desk) -> Sight
         requires { desk.old.board ≡ self.now }
         ensures right { IsRightSight desk.old.view result.words }
@@ -131,7 +133,7 @@ impl Board {
         sight
     }
 
-    /// Looks at all words as `look` does, into a sight that the caller has: its 18 KB aren't moved.
+    /// Looks at all words as `look` does, into a sight of the caller's, so that its 18 KB needn't be moved.
     pub fn look_into(&self, desk: &mut Desk, sight: &mut Sight)
         requires { desk.old.board ≡ self.now }
         ensures right { IsRightSight desk.old.view sight.new.words }
@@ -142,9 +144,9 @@ impl Board {
         }
     }
 
-    /// Splits an own slot off: a new desk owns it, and has seen what this one has seen. It may be the last one; a desk
-    /// with no slot can still look and join. It returns `Memory` if the system refuses memory, and then nothing has
-    /// changed.
+    /// Splits one of the desk's slots off. A new desk owns it, and has seen what this one has seen. It may be the last
+    /// slot, because a desk without slots can still look and join. It returns `Memory` if the system refuses memory,
+    /// and then nothing has changed.
     pub fn split(&self, desk: &mut Desk, slot: u8) -> Result<Desk, Refusal>
         requires board { desk.old.board ≡ self.now }
         requires own { Owns desk.old.view slot }
@@ -181,8 +183,9 @@ impl Board {
         })
     }
 
-    /// Takes in another desk of the board: the desk owns the slots of both, and has seen what either has seen. It takes
-    /// no memory, and tells that what one had seen of the other's words is at most the other's numbers.
+    /// Takes in another desk of the board, so that this desk owns the slots of both, and has seen what either has seen.
+    /// It takes no memory. Its contract also says that what one desk had seen of the other's words is at most the
+    /// other's numbers.
     pub fn join(&self, desk: &mut Desk, other: Desk)
         requires board { desk.old.board ≡ self.now }
         requires other { other.board ≡ self.now }
@@ -203,9 +206,9 @@ impl Board {
         self.table.shared.load::<Checks>(&mut desk.seat, 0);
     }
 
-    /// Ends the board, by the desk that owns all slots, and answers its words: the desk's numbers, and at least all
-    /// that it has seen. A register keeps its board to the end, so this is for who uses a board by itself, as the tests
-    /// do.
+    /// Ends the board with the desk that owns all slots, and returns its words, which are the desk's numbers, and are
+    /// at least all that it has seen. A register keeps its board to the end, so this call is for users of a board
+    /// alone, such as the tests.
     pub fn close(self, desk: Desk) -> [u64; WORDS]
         requires board { desk.board ≡ self }
         requires all { OwnsAll desk.view }

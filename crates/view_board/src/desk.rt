@@ -1,4 +1,4 @@
-//! A desk: the right to raise the words of its slots, and what it knows of the board.
+//! The desk: the right to raise the words of its slots, and what it knows of the board.
 ghost use Rattle.std.specs.Prelude.{◌≡◌, ℕ, ◌+◌, ◌<◌, ◌≤◌, ◌↔◌, ◌^◌, List, Bool, true, false, IsTrue, IfSome, None, if◌then◌else◌, ℤ, pos, neg_ℤ, ◌+ℤ◌, ◌≤ℤ◌, slice_index, slice_index_or};
 ghost use Rattle.view_board.specs.Views.{owned_at, Owns, IsLeastSlot, IsWide, slots_of_both, numbers_of_both};
 ghost use Rattle.view_board.specs.Words.{plus_word, minus_word, slot_net};
@@ -10,7 +10,8 @@ use crate::words::{CELLS, LIMIT, SLOT_WORDS, SLOTS, WORDS};
 use atomic_table::Seat;
 use std::marker::Model;
 
-/// A desk owns slots of one board, and has the numbers of their words. Contracts see it as its board and what it knows.
+/// A desk, which owns slots of one board, and has the numbers of their words. Contracts see it as its board and what it
+/// knows.
 #[derive(Drop)]
 pub struct Desk {
     pub(crate) seat: Seat<(), View>,
@@ -29,7 +30,7 @@ impl Model for Desk {
 }
 
 impl Desk {
-    /// Returns whether the slot is the desk's; one past the last is nobody's.
+    /// Returns whether the desk has this slot. No desk has the number behind the last slot.
     pub fn owns(&self, slot: u8) -> bool
         ensures { IsTrue result ↔ Owns self.now.view slot }
     {
@@ -51,8 +52,8 @@ impl Desk {
         None
     }
 
-    /// Returns what the desk has published of a cell below `CELLS`: the sum over its slots of their plus-words less
-    /// their minus-words.
+    /// Returns what the desk has published of a cell below `CELLS`: the sum of the plus-words of its slots, less the
+    /// sum of their minus-words.
     #[inline(always)]
     pub fn net(&self, cell: u8) -> i128
         requires { cell < CELLS }
@@ -78,7 +79,8 @@ impl Desk {
         nets
     }
 
-    /// Adds the net of an own slot in each cell to a sum: no net is past 2^40, and no sum past 2^60, either way.
+    /// Adds the net of one of the desk's slots in each cell to a sum. No net may pass 2^40, and no sum 2^60, up or
+    /// down.
     #[inline(always)]
     pub fn add_slot_nets(&self, slot: u8, sums: &mut [i64; CELLS as usize])
         requires own { Owns self.now.view slot }
@@ -89,7 +91,7 @@ impl Desk {
         add_small_nets(&self.numbers, slot, sums);
     }
 
-    /// Adds the nets of a slot to a sum for each cell, where the slot is the desk's.
+    /// Adds the nets of a slot to a sum for each cell, if the slot is the desk's.
     #[inline(always)]
     fn add_nets(&self, slot: u8, sums: &mut [i128; CELLS as usize])
         requires slot { slot < SLOTS }
@@ -119,7 +121,7 @@ pub(crate) fn net_over(owned: &[bool; SLOTS as usize], numbers: &[u64; WORDS], c
     sum
 }
 
-/// Returns the net of a slot in a cell, or 0 where its flag isn't up.
+/// Returns the net of a slot in a cell, or 0 if its flag isn't up.
 #[inline(always)]
 fn own_net(owned: &[bool; SLOTS as usize], numbers: &[u64; WORDS], slot: u8, cell: u8) -> i128
     requires slot { slot < SLOTS }
@@ -148,7 +150,7 @@ fn net_in(numbers: &[u64; WORDS], slot: u8, cell: u8) -> i128
     i128::from(numbers[plus]) - i128::from(numbers[minus])
 }
 
-/// Returns the amount that levels the two words of a cell: the lower one is raised by it.
+/// Returns the amount by which the lower one of a cell's two words is less than the higher one.
 pub(crate) fn wanting(numbers: &[u64; WORDS], slot: u8, cell: u8) -> i64
     requires slot { slot < SLOTS }
     requires cell { cell < CELLS }
@@ -161,8 +163,8 @@ pub(crate) fn wanting(numbers: &[u64; WORDS], slot: u8, cell: u8) -> i64
     numbers[minus] as i64 - numbers[plus] as i64
 }
 
-/// True only where no cell of a slot has a net, since all its words are 0. It looks at all of them, which is faster
-/// than to stop at the first that isn't.
+/// Returns true only if no cell of a slot has a net, because all its words are 0. It looks at all of them, which is
+/// faster than to stop at the first word that isn't 0.
 #[inline(always)]
 fn is_blank(numbers: &[u64; WORDS], slot: u8) -> bool
     requires { slot < SLOTS }
@@ -176,8 +178,8 @@ fn is_blank(numbers: &[u64; WORDS], slot: u8) -> bool
     bits == 0
 }
 
-/// Adds the nets of a slot to a sum for each cell, unless all its words are 0. It is not inlined: the walk over the
-/// slots, of which a desk has few, would be longer.
+/// Adds the nets of a slot to a sum for each cell, unless all its words are 0. It is not inlined, because the walk over
+/// the slots, of which a desk has few, would become longer.
 #[inline(never)]
 fn add_slot(numbers: &[u64; WORDS], slot: u8, sums: &mut [i128; CELLS as usize])
     requires slot { slot < SLOTS }
@@ -194,7 +196,7 @@ fn add_slot(numbers: &[u64; WORDS], slot: u8, sums: &mut [i128; CELLS as usize])
     }
 }
 
-/// Adds the net of a slot in each cell to a sum, where all are small.
+/// Adds the net of a slot in each cell to a sum, where all of these are small.
 #[inline(always)]
 fn add_small_nets(numbers: &[u64; WORDS], slot: u8, sums: &mut [i64; CELLS as usize])
     requires slot { slot < SLOTS }
@@ -207,7 +209,7 @@ fn add_small_nets(numbers: &[u64; WORDS], slot: u8, sums: &mut [i64; CELLS as us
     }
 }
 
-/// Adds the slots of another desk.
+/// Adds the slots of another desk to those of this one.
 pub(crate) fn take_slots(owned: &mut [bool; SLOTS as usize], others: &[bool; SLOTS as usize])
     ensures { owned.new ≡ slots_of_both owned.old others.now }
 {
@@ -216,7 +218,7 @@ pub(crate) fn take_slots(owned: &mut [bool; SLOTS as usize], others: &[bool; SLO
     }
 }
 
-/// Takes over the numbers of the words that are another desk's.
+/// Takes over the numbers of the words that belong to another desk.
 pub(crate) fn take_numbers(
     numbers: &mut [u64; WORDS],
     others: &[u64; WORDS],

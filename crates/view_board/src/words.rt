@@ -21,7 +21,7 @@ pub const WORDS: usize = SLOTS as usize * SLOT_WORDS;
 /// The greatest value of a word.
 pub const LIMIT: u64 = 9_223_372_036_854_775_807;
 
-// The numbers that the definitions mean: 16 slots of 72 cells, two words for each, and 2^63 - 1 as the greatest value.
+// The definitions use these numbers: 16 slots of 72 cells, two words for each cell, and 2^63 - 1 as the greatest value.
 const _: () = prove!(SLOTS == 16);
 
 const _: () = prove!(CELLS == 72);
@@ -33,16 +33,16 @@ const _: () = prove!(WORDS == 2_304);
 const _: () = prove!(LIMIT == (1 << 63) - 1);
 
 /// The words as a look found them, one after another. The plus-word of slot s and cell c is word `s * SLOT_WORDS + c`,
-/// and its minus-word comes `CELLS` behind; what is published of a cell is the sum of its plus-words less that of its
-/// minus-words.
+/// and its minus-word is `CELLS` places later. What is published of a cell is the sum of its plus-words less the sum of
+/// its minus-words.
 #[derive(Clone, Copy, Debug, PartialEq, Eq)]
 pub struct Sight {
     pub words: [u64; WORDS],
 }
 
 impl Sight {
-    /// Returns the plus-word and the minus-word of a slot below `SLOTS` and a cell below `CELLS`: how much was added to
-    /// the cell there, and how much was taken off it.
+    /// Returns the plus-word and the minus-word of a slot below `SLOTS` and a cell below `CELLS`, which are how much
+    /// was added to the cell there, and how much was taken off it.
     pub fn words_of(&self, slot: u8, cell: u8) -> (u64, u64)
         requires slot { slot < SLOTS }
         requires cell { cell < CELLS }
@@ -54,8 +54,8 @@ impl Sight {
         (self.words[plus], self.words[minus])
     }
 
-    /// Returns what is published of a cell below `CELLS`: what a desk that has all slots would have published by these
-    /// words.
+    /// Returns what is published of a cell below `CELLS`, which is what a desk with all slots would have published,
+    /// going by these words.
     pub fn published(&self, cell: u8) -> i128
         requires { cell < CELLS }
         ensures { result ≡ net_of (first_view self.now.words) cell }
@@ -64,7 +64,8 @@ impl Sight {
     }
 }
 
-/// Returns the word that an amount raises in a slot and cell: the plus-word, or for a negative amount the minus-word.
+/// Returns the place of the word that an amount raises in a slot and cell: the plus-word, or the minus-word for a
+/// negative amount.
 pub(crate) fn word_of(slot: u8, cell: u8, amount: i64) -> usize
     requires slot { slot < SLOTS }
     requires cell { cell < CELLS }

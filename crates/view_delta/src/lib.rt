@@ -1,5 +1,6 @@
-//! What an owner of rows has not posted yet of the standing counts: a delta for each cell. A change costs an addition
-//! for each cell that it moves, and no call takes memory. Every sum has to fit 64 bits, which the caller proves.
+//! The changes of the live counts that an owner of rows has not posted yet, as a delta for each cell. A change costs an
+//! addition for each cell that it moves, and no call takes memory. Every sum has to fit into 64 bits, which the caller
+//! proves.
 #![tactic(auto)]
 
 mod pending;

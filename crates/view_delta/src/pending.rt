@@ -1,4 +1,4 @@
-//! What an owner has not posted yet: a delta for each cell.
+//! The pending deltas of an owner, one for each cell.
 ghost use Rattle.std.specs.Prelude.{◌≡◌, ℕ, ◌<◌, ◌≤◌, ◌↔◌, List, length, IsTrue, ℤ, pos, ◌+ℤ◌, ◌-ℤ◌, slice_index, slice_set, replicate};
 ghost use Rattle.std.specs.Int.RustNames.{FitsSigned};
 ghost use mir.Syntax.{w64};
@@ -35,7 +35,7 @@ impl Pending {
         }
     }
 
-    /// Makes these deltas.
+    /// Makes pending deltas of these numbers.
     pub fn of(deltas: [i64; CELLS as usize]) -> Self
         ensures { result ≡ deltas }
     {
@@ -65,14 +65,14 @@ impl Pending {
         self.deltas[usize::from(cell)] = 0;
     }
 
-    /// Returns whether each delta is 0. The crates above ask for the next cell instead: this is for tests.
+    /// Returns whether each delta is 0. It is for tests, because the crates above ask for the next cell instead.
     pub fn is_zero(&self) -> bool
         ensures { IsTrue result ↔ AreZero 0 CELLS self.now }
     {
         self.next_nonzero(0).is_none()
     }
 
-    /// Finds the first cell from this one on whose delta isn't 0, or `None`.
+    /// Finds the first cell from this one on whose delta isn't 0, or returns `None` if there is none.
     pub fn next_nonzero(&self, from: u8) -> Option<u8>
         ensures { IsNextNonzero from self.now result }
     {
@@ -84,7 +84,7 @@ impl Pending {
         None
     }
 
-    /// Moves each cell's delta as a change says. Each sum has to fit 64 bits.
+    /// Adds a change to the deltas of the cells. Each sum has to fit into 64 bits.
     pub fn note(&mut self, change: &Change)
         requires { NotesFit self.old change.now }
         ensures { (c : ℕ) → c < CELLS → delta_at self.new c ≡ delta_at self.old c +ℤ change_at change.now c }
@@ -92,7 +92,7 @@ impl Pending {
         change.add_to(&mut self.deltas);
     }
 
-    /// Raises each cell's delta by its count; each sum has to fit 64 bits.
+    /// Raises the delta of each cell by its count. Each sum has to fit into 64 bits.
     pub fn add(&mut self, counts: &Cells)
         requires { SumsFit self.old counts.now }
         ensures { (c : ℕ) → c < CELLS → delta_at self.new c ≡ delta_at self.old c +ℤ pos (slice_index counts.now c) }
@@ -103,7 +103,7 @@ impl Pending {
         }
     }
 
-    /// Lowers each cell's delta by its count; each difference has to fit 64 bits.
+    /// Lowers the delta of each cell by its count. Each difference has to fit into 64 bits.
     pub fn subtract(&mut self, counts: &Cells)
         requires { DifferencesFit self.old counts.now }
         ensures { (c : ℕ) → c < CELLS → delta_at self.new c ≡ delta_at self.old c -ℤ pos (slice_index counts.now c) }
@@ -115,7 +115,7 @@ impl Pending {
     }
 }
 
-/// Returns a delta and a count.
+/// Returns the sum of a delta and a count.
 fn sum(delta: i64, count: u64) -> i64
     requires { FitsSigned w64 (delta +ℤ pos count) }
     ensures { result ≡ delta +ℤ pos count }
