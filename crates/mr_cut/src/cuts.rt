@@ -1,4 +1,4 @@
-//! A tree that is cut at a key.
+//! The cut of a tree at a key.
 ghost use Rattle.std.specs.Prelude.{◌≡◌, ◌+◌, ◌*◌, ◌<◌, ◌≤◌};
 ghost use Rattle.mr_node.specs.Levels.{children_of, rows_of, IsInner, IsLeaf, seen_leaf};
 ghost use Rattle.mr_node.specs.Steps.{after_steps};
@@ -11,8 +11,8 @@ use mr_node::{
     cut_children, cut_leaf, open, take_child,
 };
 
-/// Returns a root over some children of an inner node: a blank leaf, the only child, or an inner node. It takes one
-/// step at most.
+/// Makes a root over some children of an inner node, which is a blank leaf, the only child, or an inner node. It takes
+/// at most one step.
 #[inline(never)]
 fn root_of<V: Drop + Default>(
     mut inner: Inner<Box<Node<V>>>,
@@ -35,8 +35,8 @@ fn root_of<V: Drop + Default>(
     build_inner(inner, blank, meter)
 }
 
-/// Returns the child to which a key belongs, between roots over the children in front of it and behind it. It takes two
-/// steps at most.
+/// Divides an inner node at a key, and returns the child to which the key belongs, between roots over the children in
+/// front of it and behind it. It takes at most two steps.
 #[inline(never)]
 fn divide<V: Drop + Default>(
     mut inner: Inner<Box<Node<V>>>,
@@ -60,7 +60,7 @@ fn divide<V: Drop + Default>(
     (left, mid.node, right)
 }
 
-/// Returns the two roots of a leaf that is cut at a key. It takes two steps.
+/// Cuts a leaf at a key, and returns two roots. It takes two steps.
 #[inline(never)]
 fn halves_of<V: Drop + Default>(
     mut leaf: Leaf<V>,
@@ -78,8 +78,8 @@ fn halves_of<V: Drop + Default>(
     (low, build_leaf(high, other, meter))
 }
 
-/// Cuts a node at a key into two roots that are no higher than it. One meter counts what the path itself opens and
-/// builds, and the other one what the joins beside it do.
+/// Cuts a node at a key into two roots that are no higher than the node. One meter counts what the path itself opens
+/// and builds, and the other one what the joins on both sides of the path do.
 pub(crate) fn cut<V: Drop + Default>(
     node: Box<Node<V>>,
     key: u64,

@@ -1,4 +1,4 @@
-//! Two trees that become one.
+//! The join of two trees.
 ghost use Rattle.std.specs.Prelude.{◌≡◌, ◌+◌, ◌-◌, ◌<◌, ◌≤◌, max, ◌++◌};
 ghost use Rattle.std.specs.Int.{abs_diff};
 ghost use Rattle.tatp_rows.specs.Ordered.{IsOrderedBy};
@@ -12,7 +12,8 @@ ghost use Rattle.mr_cut.specs.Joins.{FitUnderRoot, IsRootOf, IsRootCount, IsHeig
 use crate::side_joins::{Side, join_side, turned};
 use mr_node::{Meter, Node, Stock, build_inner, empty_inner, insert_child};
 
-/// Returns the root of what is one node, or two under a new one. One step where there are two.
+/// Makes the root over one node or two, which is the one node itself, or a new root over both. It takes one step if
+/// there are two.
 #[inline(never)]
 fn root_of_both<V: Drop + Default>(
     one: Box<Node<V>>,
@@ -37,14 +38,14 @@ fn root_of_both<V: Drop + Default>(
     }
 }
 
-/// On which side of the higher one of two roots the other one is joined, by their heights.
+/// Returns the side of the higher one of two roots on which the other one is joined, given their heights.
 fn side_of(low: u64, high: u64) -> Side
     ensures { IsLower result low high }
 {
     if high <= low { Side::High } else { Side::Low }
 }
 
-/// Joins two roots: the rows of the low one, and then those of the high one.
+/// Joins two roots, so that the rows of the low one come before those of the high one.
 #[inline(never)]
 pub(crate) fn join<V: Drop + Default>(
     low: Box<Node<V>>,

@@ -1,6 +1,7 @@
-//! Slice and meld: a tree is cut at a key, and two trees are joined, along one path, while whole sub-trees go over as
-//! boxes. Both take a number of steps that the height bounds, and no memory but blank nodes of a stock. The stock has
-//! to be large enough before the call, which refuses nothing: `need_slice` and `need_meld` tell how large.
+//! Slice and meld, by which a tree is cut at a key and two trees are joined. Both work along one path, and move whole
+//! sub-trees as boxes. Both take a number of steps that is bounded by the height, and no memory except blank nodes of a
+//! stock. The stock has to be large enough before the call, which refuses nothing. `need_slice` and `need_meld` compute
+//! how large.
 #![tactic(auto)]
 
 mod cuts;

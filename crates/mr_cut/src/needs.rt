@@ -1,4 +1,4 @@
-//! How many blank nodes a slice and a meld want.
+//! The numbers of blank nodes that a slice and a meld need.
 ghost use Rattle.std.specs.Prelude.{◌≡◌, ◌<◌, ◌≤◌, MatchResult};
 ghost use Rattle.mr_cut.specs.Bounds.{blanks_for_slice, most_of_slice, blanks_for_meld, most_of_meld};
 
@@ -6,8 +6,8 @@ use mr_node::Stock;
 use std::alloc::Global;
 use tatp_rows::Refusal;
 
-/// Counts the blank nodes that a slice of a tree of this height, below 16, wants: `(height + 2)^2 + 1`, no more than
-/// the steps that it may take.
+/// Counts the blank nodes that a slice of a tree of this height, below 16, needs. This is `(height + 2)^2 + 1`, and not
+/// more than the steps that the slice may take.
 pub fn need_slice(height: u64) -> usize
     requires { height < 16 }
     ensures number { result ≡ blanks_for_slice height }
@@ -17,8 +17,8 @@ pub fn need_slice(height: u64) -> usize
     levels * levels + 1
 }
 
-/// Counts the blank nodes that a meld of trees of these heights, below 16, wants: three more than the heights differ
-/// by, no more than the steps that it may take.
+/// Counts the blank nodes that a meld of trees of these heights, below 16, needs. This is three more than the
+/// difference of the heights, and not more than the steps that the meld may take.
 pub fn need_meld(low: u64, high: u64) -> usize
     requires low { low < 16 }
     requires high { high < 16 }

@@ -1,4 +1,4 @@
-//! A node that is joined beside another one, which is as high or higher: one node comes of both, or two.
+//! The join of a node at one side of another one, which is as high or higher. The result is one node, or two.
 ghost use Rattle.std.specs.Prelude.{◌≡◌, ◌+◌, ◌-◌, ◌*◌, ◌<◌, ◌≤◌, ◌++◌, IfSome};
 ghost use Rattle.tatp_rows.specs.Ordered.{IsOrderedBy};
 ghost use Rattle.mr_node.specs.Rows.{key_limit, key_of_pair, KeysBelow};
@@ -13,7 +13,7 @@ use mr_node::{
     Body, Inner, Meter, Node, Stock, build_inner, empty_inner, insert_child, open, take_child,
 };
 
-/// On which side of a node another one is joined.
+/// The side of a node on which another one is joined.
 #[derive(Clone, Copy)]
 pub(crate) enum Side {
     /// In front of it, with the lower keys.
@@ -22,7 +22,7 @@ pub(crate) enum Side {
     High,
 }
 
-/// Returns the place at a side, where that of the high side is `last`.
+/// Returns the place at the end on a side. On the high side, this is `last`.
 fn end_of(side: Side, last: usize) -> usize
     ensures { result ≡ end_of side last }
 {
@@ -32,8 +32,9 @@ fn end_of(side: Side, last: usize) -> usize
     }
 }
 
-/// Two nodes as they are, or the other way round for the low side: so a node and the one beside it are in the order of
-/// their keys, and of two in that order the first is the one nearer to what they are joined beside.
+/// Returns two nodes as they are for the high side, and exchanged for the low side. So a node and the one that is
+/// joined to it come out in the order of their keys, and the first of two nodes in that order becomes the one nearer to
+/// the node to which they are joined.
 pub(crate) fn turned<V: Drop>(
     side: Side,
     one: Box<Node<V>>,
@@ -65,8 +66,8 @@ fn even<V: Drop + Default>(
     (low, Some(high))
 }
 
-/// Builds an inner node of these children in a box. It takes one step. It is not inlined: the stack of a side join
-/// holds no node then.
+/// Builds an inner node of these children in a box. It takes one step. It is not inlined, so that no node is on the
+/// stack of a side join.
 #[inline(never)]
 fn built<V: Drop>(
     inner: Inner<Box<Node<V>>>,
@@ -80,7 +81,7 @@ fn built<V: Drop>(
     build_inner(inner, blank, meter)
 }
 
-/// Returns an inner node of one child. It takes one step.
+/// Makes an inner node with one child. It takes one step.
 #[inline(never)]
 fn lone<V: Drop>(
     height: u64,
@@ -98,7 +99,8 @@ fn lone<V: Drop>(
     build_inner(inner, blank, meter)
 }
 
-/// Puts what became of the child at a side back beside the others. It takes one step, or six where it became two.
+/// Puts what the child at a side has become back next to the others. It takes one step, or six if the child has become
+/// two.
 #[inline(never)]
 fn put_back<V: Drop + Default>(
     side: Side,
@@ -138,8 +140,9 @@ fn put_back<V: Drop + Default>(
     }
 }
 
-/// Joins a node beside one that is as high or higher: one node of that height comes of it, or two half full ones. It
-/// takes four steps, and two a level between, or seven where two nodes come back.
+/// Joins a node at a side of another one that is as high or higher. The result is one node of that height, or two that
+/// are half full. It takes four steps, and two for each level between the two heights, or seven for a level from which
+/// two nodes come back.
 pub(crate) fn join_side<V: Drop + Default>(
     side: Side,
     node: Box<Node<V>>,

@@ -1,4 +1,4 @@
-//! Slice and meld of whole trees.
+//! The slice and the meld of whole trees.
 ghost use Rattle.std.specs.Prelude.{◌≡◌, ◌+◌, ◌-◌, ◌*◌, ◌≤◌, max, ◌++◌, []};
 ghost use Rattle.std.specs.Int.{abs_diff};
 ghost use Rattle.mr_cut.specs.Bounds.{join_steps, blanks_for_slice, most_of_joins, most_of_slice, blanks_for_meld, most_of_meld, fewest_of_meld};
@@ -18,13 +18,14 @@ pub struct Cut<V> {
     pub low: SubTree<V>,
     /// The rows with keys from the key on.
     pub high: SubTree<V>,
-    /// How many steps it took.
+    /// How many steps the cut took.
     pub steps: u64,
-    /// How many of them fell on the path from the root to the key; the others joined what lies beside it.
+    /// How many of the steps were on the path from the root to the key. The others joined what lies on both sides of
+    /// it.
     pub path: u64,
 }
 
-/// Takes the root of a tree out, in a box; the tree has no row then.
+/// Takes the root of a tree out, in a box, and leaves the tree without rows.
 #[inline(never)]
 fn take_root<V: Drop + Default>(tree: &mut SubTree<V>, mut blank: Box<Node<V>>) -> Box<Node<V>>
     ensures root { result.value ≡ tree.old }
@@ -39,7 +40,7 @@ fn take_root<V: Drop + Default>(tree: &mut SubTree<V>, mut blank: Box<Node<V>>) 
     blank
 }
 
-/// Makes a tree of a root, in the place of another one.
+/// Makes a tree of a root, in the place of another tree.
 #[inline(never)]
 fn put_root<V: Drop>(place: &mut SubTree<V>, root: Box<Node<V>>)
     requires { IsRoot root.value }
@@ -49,8 +50,8 @@ fn put_root<V: Drop>(place: &mut SubTree<V>, root: Box<Node<V>>)
     drop(mem::replace(place, SubTree::from_root(alloc, Box::into_inner(root))));
 }
 
-/// Cuts a tree at a key: at most three steps a level on the path, and two melds a level beside it. It takes no memory
-/// but the blank nodes of the stock (`need_slice`).
+/// Cuts a tree at a key, with at most three steps for each level on the path, and two melds for each level on its
+/// sides. It takes no memory except the blank nodes of the stock (`need_slice`).
 pub fn slice<V: Drop + Default>(tree: SubTree<V>, key: u64, stock: &mut Stock<V>) -> Cut<V>
     requires stock { blanks_for_slice tree.height ≤ stock.old }
     ensures low { result.low.rows ≡ rows_below key tree.rows }
@@ -76,8 +77,8 @@ pub fn slice<V: Drop + Default>(tree: SubTree<V>, key: u64, stock: &mut Stock<V>
     }
 }
 
-/// Cuts a tree at a key, as `slice` does: it keeps the rows with keys below the key, and those from the key on stand in
-/// another one, in place of its own. How many steps it took, and how many of them fell on the path.
+/// Cuts a tree at a key, as `slice` does. The tree keeps the rows with keys below the key, and the others replace the
+/// rows of another tree. It returns how many steps it took, and how many of them were on the path.
 pub fn slice_into<V: Drop + Default>(
     tree: &mut SubTree<V>,
     high: &mut SubTree<V>,
@@ -106,10 +107,10 @@ pub fn slice_into<V: Drop + Default>(
     (path.steps() + joins.steps(), path.steps())
 }
 
-/// Joins two trees, the keys of the low one below those of the high one: the rows of the one, and then those of the
-/// other; and how many steps it took: four, two for each level by which the heights differ, five for each of those
-/// levels from which two nodes came back, and one for a new root. It takes no memory but the blank nodes of the stock
-/// (`need_meld`): two, one for each such level, and one for a new root.
+/// Joins two trees, where the keys of the low one are below those of the high one, and returns how many steps it took.
+/// There are four steps, two for each level by which the heights differ, five for each of those levels from which two
+/// nodes came back, and one for a new root. It takes no memory except the blank nodes of the stock (`need_meld`): two,
+/// one for each such level, and one for a new root.
 pub fn meld<V: Drop + Default>(
     mut low: SubTree<V>,
     mut high: SubTree<V>,
@@ -129,8 +130,8 @@ pub fn meld<V: Drop + Default>(
     (low, steps)
 }
 
-/// Joins a tree with another one, as `meld` does: it has the rows of both, and the other one none. How many steps it
-/// took.
+/// Joins a tree with another one, as `meld` does. The tree gets the rows of both, and the other one has none then. It
+/// returns how many steps it took.
 pub fn meld_from<V: Drop + Default>(
     low: &mut SubTree<V>,
     high: &mut SubTree<V>,

@@ -10,25 +10,25 @@ pub struct Child<B> {
     pub node: B,
 }
 
-/// The part of an inner node: its children and their least keys stand in the first `len` places.
+/// The part of an inner node, which has its children and their least keys in the first `len` places.
 #[derive(Drop)]
 pub struct Inner<B> {
     /// How far the node is above the leaves, 1 or more.
     pub height: u64,
     /// The number of children, 1..=32.
     pub len: usize,
-    /// The children's least keys, and behind them 18446744073709551615.
+    /// The least keys of the children, followed by 18446744073709551615 in the unused places.
     pub leasts: [u64; 32],
-    /// The children by their least keys.
+    /// The children, in the order of their least keys.
     pub children: [Option<Child<B>>; 32],
 }
 
-/// The part of a leaf: its keys, and beside them the values.
+/// The part of a leaf, which has its keys, and the values in the same order.
 #[derive(Drop)]
 pub struct Leaf<V> {
-    /// The keys in rising order, and behind them 18446744073709551615.
+    /// The keys in rising order, followed by 18446744073709551615 in the unused places.
     pub keys: [u64; 32],
-    /// The values by their keys.
+    /// The values, in the order of their keys.
     pub values: ArrayVec<V, 32>,
 }
 

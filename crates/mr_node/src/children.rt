@@ -10,7 +10,7 @@ use crate::keys::{NO_KEY, count_below, is_between, put_key, take_key};
 use crate::places::{last_to, move_to_end};
 use crate::{Child, Inner};
 
-/// Thirty-two places for children, none used.
+/// Returns thirty-two places for children, none of which is used.
 fn no_children<B>() -> [Option<Child<B>>; 32]
     ensures { IsPacked 0 result }
 {
@@ -36,7 +36,8 @@ pub fn empty_inner<B>(height: u64) -> Inner<B>
     }
 }
 
-/// Finds the place of the child to which a key belongs: the last whose least key isn't above the key, or the first.
+/// Finds the place of the child to which a key belongs, which is the last one whose least key isn't above the key, or
+/// the first one if there is none.
 pub fn child_place<B>(inner: &Inner<B>, key: u64) -> usize
     requires some { 0 < inner.now.len }
     requires entries { AreEntries inner.now.len inner.now.leasts inner.now.children }
@@ -47,7 +48,7 @@ pub fn child_place<B>(inner: &Inner<B>, key: u64) -> usize
     count_below(&inner.leasts, key.saturating_add(1)).saturating_sub(1)
 }
 
-/// `child_place`, in a function of its own.
+/// Does the same as `child_place`, in a function of its own.
 #[inline(never)]
 fn child_place_far<B>(inner: &Inner<B>, key: u64) -> usize
     requires some { 0 < inner.now.len }
@@ -59,7 +60,7 @@ fn child_place_far<B>(inner: &Inner<B>, key: u64) -> usize
     child_place(inner, key)
 }
 
-/// Returns the place of the child to which a key belongs, looked for at a guess of it first where `GUESSED`.
+/// Finds the place of the child to which a key belongs. If `GUESSED`, it first looks at a guess of the place.
 #[inline(always)]
 pub(crate) fn child_place_at<B, const GUESSED: bool>(
     inner: &Inner<B>,
@@ -105,7 +106,7 @@ pub(crate) fn sum_counts<B>(inner: &Inner<B>) -> u64
     total
 }
 
-/// Takes the child at a place out of an inner node's part.
+/// Removes the child at a place from an inner node's part, and returns it.
 pub fn take_child<B>(inner: &mut Inner<B>, place: usize) -> Child<B>
     requires entries { AreEntries inner.old.len inner.old.leasts inner.old.children }
     requires within { place < inner.old.len }

@@ -1,4 +1,4 @@
-//! Parts of nodes that are cut in two.
+//! The cuts of a node's part in two.
 ghost use Rattle.std.specs.Prelude.{◌≡◌, ◌≤◌, ℕ, [], ◌++◌};
 ghost use Rattle.mr_node.specs.EntryLists.{entries, AreEntries};
 ghost use Rattle.mr_node.specs.Rows.{KeysBelow, KeysFrom};
@@ -11,7 +11,7 @@ use crate::entry_lists::share;
 use crate::keys::count_below;
 use crate::{Inner, Leaf, Meter, Node, build_leaf};
 
-/// Cuts a leaf at a key: the entries from the key on are handed out.
+/// Cuts a leaf at a key, and returns the entries whose key is this one or higher.
 pub fn cut_leaf<V: Drop + Default>(leaf: &mut Leaf<V>, key: u64) -> Leaf<V>
     requires { IsLeaf leaf.old }
     ensures low { IsLeaf leaf.new }
@@ -26,7 +26,7 @@ pub fn cut_leaf<V: Drop + Default>(leaf: &mut Leaf<V>, key: u64) -> Leaf<V>
     high
 }
 
-/// Cuts the children of an inner node's part at a place: those from there on are handed out.
+/// Cuts the children of an inner node's part at a place, and returns those from there on.
 pub fn cut_children<B: Drop>(inner: &mut Inner<B>, place: usize) -> Inner<B>
     requires entries { AreEntries inner.old.len inner.old.leasts inner.old.children }
     requires within { place ≤ inner.old.len }

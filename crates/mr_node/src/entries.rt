@@ -14,7 +14,7 @@ use crate::keys::{NO_KEY, count_below, is_at, put_key, take_key};
 use crate::{Leaf, Revise, Room};
 use arrayvec::ArrayVec;
 
-/// Returns a leaf without entries.
+/// Makes a leaf without entries.
 pub(crate) fn empty_leaf<V: Default>() -> Leaf<V>
     ensures leaf { IsLeaf result }
     ensures none { result.values.items ≡ [] }
@@ -25,7 +25,7 @@ pub(crate) fn empty_leaf<V: Default>() -> Leaf<V>
     }
 }
 
-/// Returns the place of a key in a leaf; where it isn't there, that at which it would stand.
+/// Returns the place of a key in a leaf, or the place at which it would be if it isn't there.
 fn search<V>(leaf: &Leaf<V>, key: u64) -> Result<usize, usize>
     requires { IsLeaf leaf.now }
     ensures { MatchResult result (λ place. IsThere key place leaf.now) (λ place. IsFree key place leaf.now) }
@@ -48,7 +48,7 @@ fn find_entry<V>(leaf: &Leaf<V>, key: u64) -> Option<&V>
     }
 }
 
-/// `find_entry`, in a function of its own.
+/// Does the same as `find_entry`, in a function of its own.
 #[inline(never)]
 fn find_far<V>(leaf: &Leaf<V>, key: u64) -> Option<&V>
     requires { IsLeaf leaf.now }
@@ -57,7 +57,7 @@ fn find_far<V>(leaf: &Leaf<V>, key: u64) -> Option<&V>
     find_entry(leaf, key)
 }
 
-/// Returns the value at a key of a leaf, looked for at a guess of its place first where `GUESSED`.
+/// Finds the value at a key of a leaf. If `GUESSED`, it first looks at a guess of the place.
 #[inline(always)]
 pub(crate) fn find_entry_at<V, const GUESSED: bool>(
     leaf: &Leaf<V>,
@@ -76,7 +76,7 @@ pub(crate) fn find_entry_at<V, const GUESSED: bool>(
     find_far(leaf, key)
 }
 
-/// Changes the value in a place of a leaf.
+/// Changes the value at a place of a leaf.
 fn revise_in<V, E: Revise<V>>(values: &mut ArrayVec<V, 32>, place: usize, revision: &mut E)
     requires { place < length values.old.items }
     ensures items { IfSome (slice_get values.old.items place) (λ v. values.new.items ≡ slice_set values.old.items place (E.revised revision.old v)) }
@@ -103,7 +103,7 @@ fn revise_entry<V, E: Revise<V>>(leaf: &mut Leaf<V>, key: u64, revision: &mut E)
     }
 }
 
-/// `revise_entry`, in a function of its own.
+/// Does the same as `revise_entry`, in a function of its own.
 #[inline(never)]
 fn revise_far<V, E: Revise<V>>(leaf: &mut Leaf<V>, key: u64, revision: &mut E) -> bool
     requires { IsLeaf leaf.old }
@@ -116,8 +116,8 @@ fn revise_far<V, E: Revise<V>>(leaf: &mut Leaf<V>, key: u64, revision: &mut E) -
     revise_entry(leaf, key, revision)
 }
 
-/// Changes the value at a key of a leaf, looked for at a guess of its place first where `GUESSED`. It returns false if
-/// the key isn't there.
+/// Changes the value at a key of a leaf, and returns false if the key isn't there. If `GUESSED`, it first looks at a
+/// guess of the place.
 #[inline(always)]
 pub(crate) fn revise_entry_at<V, E: Revise<V>, const GUESSED: bool>(
     leaf: &mut Leaf<V>,
@@ -152,7 +152,7 @@ fn put_entry<V: Drop>(leaf: &mut Leaf<V>, place: usize, key: u64, value: V)
     ensures grown { IsGrown key value (seen_leaf leaf.old) (seen_leaf leaf.new) }
 {
     if place == leaf.values.len() {
-        // Behind the last row nothing moves.
+        // Behind the last entry, nothing has to move.
         leaf.keys[place] = key;
         leaf.values.push(value);
         return;
@@ -161,7 +161,7 @@ fn put_entry<V: Drop>(leaf: &mut Leaf<V>, place: usize, key: u64, value: V)
     leaf.values.insert(place, value);
 }
 
-/// Takes a value and puts it into a leaf with room, at the place of its key.
+/// Takes a value, and puts it into a leaf with room, at the place of its key.
 fn take_in<V: Drop>(leaf: &mut Leaf<V>, place: usize, key: u64, value: &mut Option<V>)
     requires leaf { IsLeaf leaf.old }
     requires small { key < key_limit }
@@ -216,7 +216,7 @@ pub(crate) fn insert_new<V: Drop>(leaf: &mut Leaf<V>, key: u64, value: &mut Opti
     }
 }
 
-/// Takes the row at a key out of a leaf.
+/// Removes the row at a key from a leaf, and returns its value.
 pub(crate) fn remove_entry<V: Drop + Default>(leaf: &mut Leaf<V>, key: u64) -> Option<V>
     requires { IsLeaf leaf.old }
     ensures rows { pairs_of leaf.new ≡ without_row key_of_pair key (pairs_of leaf.old) }
@@ -233,7 +233,7 @@ pub(crate) fn remove_entry<V: Drop + Default>(leaf: &mut Leaf<V>, key: u64) -> O
     }
 }
 
-/// Returns the first row of a leaf from a key on.
+/// Returns the first row of a leaf whose key is this one or higher.
 pub(crate) fn first_entry<V>(leaf: &Leaf<V>, key: u64) -> Option<(u64, &V)>
     requires { IsLeaf leaf.now }
     ensures { option_map (λ r. (r.0, r.1.now)) result ≡ find (λ p. nat_le key p.0) (pairs_of leaf.now) }
@@ -245,7 +245,7 @@ pub(crate) fn first_entry<V>(leaf: &Leaf<V>, key: u64) -> Option<(u64, &V)>
     Some((leaf.keys[place], &leaf.values.as_slice()[place]))
 }
 
-/// Returns the fold over the rows of a leaf.
+/// Folds the rows of a leaf.
 pub(crate) fn fold_entries<V, A, F: Fn(A, u64, &V) -> A>(leaf: &Leaf<V>, init: A, f: &F) -> A
     requires callable { F.IsAlwaysCallable f.now }
     requires leaf { IsLeaf leaf.now }
@@ -258,7 +258,7 @@ pub(crate) fn fold_entries<V, A, F: Fn(A, u64, &V) -> A>(leaf: &Leaf<V>, init: A
     folded
 }
 
-/// Hands each row of a leaf in order to a closure, with what it writes to.
+/// Hands each row of a leaf, in order, to a closure, together with what the closure writes to.
 pub(crate) fn walk_entries<V, A, F: Fn(&mut A, u64, &V)>(leaf: &Leaf<V>, so_far: &mut A, f: &F)
     requires callable { F.IsAlwaysCallable f.now }
     requires leaf { IsLeaf leaf.now }
@@ -269,7 +269,7 @@ pub(crate) fn walk_entries<V, A, F: Fn(&mut A, u64, &V)>(leaf: &Leaf<V>, so_far:
     }
 }
 
-/// Puts the rows of a leaf from a key on into an empty page.
+/// Puts the rows of a leaf, from a key on, into an empty page.
 pub(crate) fn page_entries<V: Copy>(leaf: &Leaf<V>, key: u64, page: &mut ArrayVec<(u64, V), 32>)
     requires leaf { IsLeaf leaf.now }
     requires empty { page.old.items ≡ [] }

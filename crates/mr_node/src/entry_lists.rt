@@ -1,4 +1,4 @@
-//! Two neighbours that share their entries or children anew.
+//! The moves of entries or children between two neighbours.
 ghost use Rattle.std.specs.Prelude.{◌≡◌, ◌+◌, ◌-◌, ◌*◌, ◌<◌, ◌≤◌, ℕ, List, Some, ◌++◌, length, reverse, take, drop, min, slice_get};
 ghost use Rattle.std.specs.List.{zip};
 ghost use Rattle.mr_node.specs.EntryLists.{AreEntries, AreKeyed, entries};
@@ -11,7 +11,7 @@ use crate::{Child, Inner, Leaf};
 use arrayvec::ArrayVec;
 use std::mem;
 
-/// A leaf or an inner node's part, as a list of entries that gives at both ends and takes at its end.
+/// A leaf or the part of an inner node, as a list of entries that can be given away at both ends and taken at the end.
 pub(crate) trait EntryList {
     type Item;
 
@@ -26,7 +26,7 @@ pub(crate) trait EntryList {
         requires { is_entry_list self.now }
         ensures { result ≡ length (list self.now) };
 
-    /// Moves the last entry behind those of another one.
+    /// Moves the last entry to the end of another list.
     fn give_last(&mut self, to: &mut Self)
         requires entries { is_entry_list self.old }
         requires to_entries { is_entry_list to.old }
@@ -39,7 +39,7 @@ pub(crate) trait EntryList {
         ensures height { height self.new ≡ height self.old }
         ensures to_height { height to.new ≡ height to.old };
 
-    /// Moves the first entries behind those of another one.
+    /// Moves the first entries to the end of another list.
     fn give_front(&mut self, to: &mut Self, count: usize)
         requires entries { is_entry_list self.old }
         requires to_entries { is_entry_list to.old }
@@ -52,7 +52,7 @@ pub(crate) trait EntryList {
         ensures height { height self.new ≡ height self.old }
         ensures to_height { height to.new ≡ height to.old };
 
-    /// Turns the order of the entries round.
+    /// Reverses the order of the entries.
     fn turn(&mut self)
         requires { is_entry_list self.old }
         ensures entries { is_entry_list self.new }
@@ -60,7 +60,7 @@ pub(crate) trait EntryList {
         ensures height { height self.new ≡ height self.old };
 }
 
-/// Takes the value out of a place, and leaves a default one.
+/// Takes the value out of a place, and leaves a default one there.
 fn take_value<V: Default>(values: &mut ArrayVec<V, 32>, place: usize) -> V
     requires { place < length values.old.items }
     ensures rest { drop (place + 1) values.new.items ≡ drop (place + 1) values.old.items }
@@ -70,7 +70,7 @@ fn take_value<V: Default>(values: &mut ArrayVec<V, 32>, place: usize) -> V
     mem::take(&mut values.as_mut_slice()[place])
 }
 
-/// Moves the first entries of a leaf, seen as its keys and its values, behind those of another one. Default values stay
+/// Moves the first entries of a leaf, seen as its keys and its values, to the end of another leaf. Default values stay
 /// in their places.
 fn move_front<V: Drop + Default>(
     keys: &[u64; 32],
@@ -208,7 +208,8 @@ pub(crate) fn share<R: EntryList>(left: &mut R, right: &mut R, low: usize)
     right.turn();
 }
 
-/// Returns how many of so many entries the left one of two neighbours gets: all where they fit, else half of them.
+/// Returns how many entries the left one of two neighbours gets when they have so many together: all of them if they
+/// fit, and half otherwise.
 pub(crate) fn low_of(both: usize) -> usize
     requires { both ≤ 64 }
     ensures share { IsShare both result }
@@ -220,8 +221,8 @@ pub(crate) fn low_of(both: usize) -> usize
     both / 2
 }
 
-/// Moves entries between two neighbours until the left one has `low` of them: true where it has all then; else both are
-/// half full.
+/// Moves entries between two neighbours until the left one has `low` of them. It returns true if the left one has all
+/// of them then, and otherwise both are half full.
 pub(crate) fn even<R: EntryList>(left: &mut R, right: &mut R, low: usize) -> bool
     requires left_entries { R.is_entry_list left.old }
     requires right_entries { R.is_entry_list right.old }

@@ -1,13 +1,13 @@
-//! Where a key is to be expected in a dense tree: its keys are 2^`shift` apart, and came in rising order. In other
-//! trees the guess is any number, so whoever uses it looks first whether it is right.
+//! The guess of where a key is in a dense tree, whose keys are 2^`shift` apart and came in rising order. In other trees
+//! the guess can be any number, so its user first has to look whether it is right.
 ghost use Rattle.std.specs.Prelude.{◌≡◌, ℕ, ◌+◌, ◌*◌, ◌/◌, ◌^◌, ◌<◌, ◌≤◌};
 
 use crate::rebalancing::GIVEN_TO;
 
-/// How many entries or children a node is left with where rows come in rising order.
+/// The number of entries or children with which a node is left behind when rows come in rising order.
 const FILLED: u64 = GIVEN_TO as u64;
 
-/// By the height of a node, 2^40 over the rows below a child of it, rounded up.
+/// For each height of a node, 2^40 divided by the number of rows below one of its children, rounded up.
 static RATES: [u64; 8] = [
     0,
     (1 << 40) / FILLED + 1,
@@ -19,7 +19,7 @@ static RATES: [u64; 8] = [
     (1 << 40) / (FILLED * FILLED * FILLED * FILLED * FILLED * FILLED * FILLED) + 1,
 ];
 
-/// Returns how many rows of a node stand in front of a key, counted from its least key.
+/// Returns how many rows of a node are in front of a key, going by the node's least key.
 #[inline(always)]
 pub(crate) fn rows_before(key: u64, least: u64, shift: u32) -> u64
     ensures { shift < 64 → (n : ℕ) → key ≡ least + n * 2 ^ shift → result ≡ n }
@@ -27,7 +27,8 @@ pub(crate) fn rows_before(key: u64, least: u64, shift: u32) -> u64
     key.wrapping_sub(least).wrapping_shr(shift)
 }
 
-/// Returns the place of the child of a node that has the row behind so many. Above height 3 it may be off by one.
+/// Returns the place of the child of a node that has the row behind so many others. Above height 3 it may be wrong by
+/// one.
 #[inline(always)]
 pub(crate) fn child_behind(rows: u64, height: u64) -> usize
     ensures low { height ≡ 1 → rows < 29 ^ 2 → result ≡ rows / 29 }

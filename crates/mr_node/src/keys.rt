@@ -1,14 +1,14 @@
-//! The keys of a node: a plain array of 32 in rising order, with the greatest number behind the last key.
+//! The keys of a node: a plain array of 32 in rising order, with the greatest number in the unused places.
 ghost use Rattle.std.specs.Prelude.{◌≡◌, ◌+◌, ◌-◌, ◌*◌, ◌<◌, ◌≤◌, [], ◌∷◌, ◌++◌, insert, remove, take, drop, replicate, slice_index_or, slice_set, nat_lt, true, false, if◌then◌else◌};
 ghost use Rattle.mr_node.specs.EntryLists.{no_key};
 ghost use Rattle.mr_node.specs.Search.{IsRising, IsStop};
 
 use crate::places::move_to_end;
 
-/// What stands behind the last key.
+/// The number in the unused places behind the last key.
 pub(crate) const NO_KEY: u64 = u64::MAX;
 
-/// 1 where the key at a place is less than this one, else 0.
+/// Returns 1 if the key at a place is less than this one, and 0 otherwise.
 fn is_less(keys: &[u64; 32], place: usize, key: u64) -> usize
     requires { place < 32 }
     ensures { result ≡ (if nat_lt (slice_index_or keys.now place 0) key then 1 else 0) }
@@ -16,7 +16,7 @@ fn is_less(keys: &[u64; 32], place: usize, key: u64) -> usize
     usize::from(keys[place] < key)
 }
 
-/// Returns how many of the seven keys that stand four places apart are less than a key.
+/// Returns how many of seven keys, which are four places apart, are less than a key.
 fn fours_below(keys: &[u64; 32], key: u64) -> usize
     requires { IsRising keys.now }
     ensures within { result < 8 }
@@ -32,7 +32,8 @@ fn fours_below(keys: &[u64; 32], key: u64) -> usize
         + is_less(keys, 27, key)
 }
 
-/// Returns how many of the keys are less than a key: eleven looks that are added up, with no branch on a key.
+/// Returns how many of the keys are less than a key. It adds up the results of eleven comparisons, and has no branch
+/// that depends on a key.
 pub(crate) fn count_below(keys: &[u64; 32], key: u64) -> usize
     requires { IsRising keys.now }
     ensures { IsStop key result keys.now }
@@ -44,7 +45,7 @@ pub(crate) fn count_below(keys: &[u64; 32], key: u64) -> usize
         + is_less(keys, low + 3, key)
 }
 
-/// Returns whether a key stands at a place: what stands behind the last key is no key.
+/// Returns whether a key is at a place. The number behind the last key is no key.
 #[inline(always)]
 pub(crate) fn is_at(keys: &[u64; 32], place: usize, key: u64) -> bool
     ensures there { result ≡ true → (place < 32) × (slice_index_or keys.now place 0 ≡ key) × (key < no_key) }
@@ -53,7 +54,8 @@ pub(crate) fn is_at(keys: &[u64; 32], place: usize, key: u64) -> bool
     place < 32 && keys[place] == key && key != NO_KEY
 }
 
-/// Returns whether a key is at least the one at a place, and less than the next one. Of the last place it is false.
+/// Returns whether a key is at least the one at a place, and less than the next one. For the last place it returns
+/// false.
 #[inline(always)]
 pub(crate) fn is_between(keys: &[u64; 32], place: usize, key: u64) -> bool
     ensures { result ≡ true → (place < 31) × (slice_index_or keys.now place 0 ≤ key) × (key < slice_index_or keys.now (place + 1) 0) }
@@ -61,7 +63,7 @@ pub(crate) fn is_between(keys: &[u64; 32], place: usize, key: u64) -> bool
     place < 31 && keys[place] <= key && key < keys[place + 1]
 }
 
-/// Puts a key among the others; what stands in the last place is dropped.
+/// Puts a key among the others, and drops the number in the last place.
 pub(crate) fn put_key(keys: &mut [u64; 32], place: usize, key: u64)
     requires { place < 32 }
     ensures { keys.new ≡ insert (take 31 keys.old) place key }
@@ -70,7 +72,7 @@ pub(crate) fn put_key(keys: &mut [u64; 32], place: usize, key: u64)
     keys[place] = key;
 }
 
-/// Takes the first keys out, and closes the gap.
+/// Removes the first keys, and closes the gap.
 pub(crate) fn drop_keys(keys: &mut [u64; 32], count: usize)
     requires { count ≤ 32 }
     ensures { keys.new ≡ drop count keys.old ++ replicate count no_key }
@@ -79,7 +81,7 @@ pub(crate) fn drop_keys(keys: &mut [u64; 32], count: usize)
     keys[32 - count..].fill(NO_KEY);
 }
 
-/// Takes the key at a place out, and closes the gap.
+/// Removes the key at a place, and closes the gap.
 pub(crate) fn take_key(keys: &mut [u64; 32], place: usize)
     requires { place < 32 }
     ensures { keys.new ≡ remove keys.old place ++ no_key ∷ [] }

@@ -1,8 +1,8 @@
-//! The nodes of a tree of rows: at most 32 entries or children each, with the meter that counts every node that is
+//! The nodes of a tree of rows, with at most 32 entries or children each, the meter that counts every node that is
 //! taken apart or built, and the stock of blank nodes from which trees grow. A call on a key goes down one path and
-//! compares at most thirteen keys in each node: eleven for the search, one at the place that it finds, and one at the
-//! place that a guess names. It takes memory only where the stock is filled. An inner node keeps each child's least key
-//! and count of rows, so code that changes a child has to set both anew.
+//! makes at most thirteen comparisons in each node: eleven for the search, one at the place that it finds, and one at
+//! the place of a guess. Only filling the stock takes memory. An inner node keeps the least key and the count of rows
+//! of each child, so code that changes a child has to set both again.
 #![tactic(auto)]
 
 mod body;

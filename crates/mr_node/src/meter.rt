@@ -4,7 +4,7 @@ ghost use Rattle.mr_node.specs.Steps.{after_steps};
 
 use std::marker::Model;
 
-/// Counts steps: a step is one node taken apart, or one node built. The count stops at 18446744073709551615.
+/// A counter of steps, where a step is one node taken apart, or one node built. It stops at 18446744073709551615.
 #[derive(Drop)]
 pub struct Meter {
     steps: u64,
@@ -19,21 +19,21 @@ impl Model for Meter {
 }
 
 impl Meter {
-    /// Makes a meter that stands at 0.
+    /// Makes a meter with no step.
     pub fn new() -> Self
         ensures { result ≡ 0 }
     {
         Meter { steps: 0 }
     }
 
-    /// Returns the steps counted.
+    /// Returns the number of steps.
     pub fn steps(&self) -> u64
         ensures { result ≡ self.now }
     {
         self.steps
     }
 
-    /// Counts so many steps: one for each node that is taken apart, and one for each that is built, in place too.
+    /// Counts this many steps, one for each node that is taken apart and one for each that is built, also in place.
     pub(crate) fn tick(&mut self, steps: u64)
         ensures { self.new ≡ after_steps steps self.old }
     {

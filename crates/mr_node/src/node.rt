@@ -1,4 +1,4 @@
-//! Nodes.
+//! The nodes of trees.
 ghost use Rattle.std.specs.Prelude.{◌≡◌, ◌+◌, ◌-◌, ◌*◌, ◌<◌, ◌≤◌, ℕ, None, IsSome, IfSome, min, [], ◌++◌, length, nat_le, option_map, is_some, ok_or, Ok, Err, if◌then◌else◌, true, false};
 ghost use Rattle.std.specs.List.{find};
 ghost use Rattle.tatp_rows.specs.Ordered.{IsOrderedBy, row_at, with_row_at};
@@ -30,7 +30,7 @@ use arrayvec::ArrayVec;
 use std::marker::Model;
 use std::mem;
 
-/// A node of a tree, seen as its height, its width and its rows. Each child of an inner node is half full at least.
+/// A node of a tree, seen as its height, its width and its rows. Each child of an inner node is at least half full.
 #[derive(Drop)]
 pub struct Node<V> {
     body: Body<V, Box<Node<V>>>,
@@ -68,7 +68,7 @@ impl<V: Default> Node<V> {
 }
 
 impl<V> Node<V> {
-    /// Returns how far the node is above the leaves: 0 for a leaf.
+    /// Returns how far the node is above the leaves, which is 0 for a leaf.
     pub fn height(&self) -> u64
         ensures value { result ≡ self.now.height }
         ensures well { IsWell self.now }
@@ -117,16 +117,16 @@ impl<V> Node<V> {
         self.find_row::<false>(key, 0, 0)
     }
 
-    /// Finds as `find` does, quicker in a dense tree, slower in others. The keys of a dense tree are 2^`shift` apart,
-    /// and came in rising order: it looks first where the key is in such a tree.
+    /// Finds the value at a key as `find` does. It first looks where the key is in a dense tree, whose keys are
+    /// 2^`shift` apart and came in rising order. In such a tree it is quicker than `find`, and in others it is slower.
     pub fn find_by_guess(&self, key: u64, shift: u32) -> Option<&V>
         ensures { option_map (λ r. r.now) result ≡ value_at key self.now.rows }
     {
         self.find_row::<true>(key, shift, self.least())
     }
 
-    /// Returns the value at a key. Where `GUESSED`, it looks first where a dense tree would have the key; `least` is
-    /// the node's least key, or any number. Else `shift` and `least` are of no matter.
+    /// Finds the value at a key. If `GUESSED`, it first looks where a dense tree would have the key, and `least` is the
+    /// node's least key, or any number. If not, `shift` and `least` don't matter.
     fn find_row<const GUESSED: bool>(&self, key: u64, shift: u32, least: u64) -> Option<&V>
         ensures { option_map (λ r. r.now) result ≡ value_at key self.now.rows }
     {
@@ -146,7 +146,7 @@ impl<V> Node<V> {
         }
     }
 
-    /// Finds the child to which a key belongs; of a leaf itself. A look counts as no step.
+    /// Finds the child to which a key belongs, or the node itself if it is a leaf. A look counts as no step.
     #[inline]
     pub fn towards(&self, key: u64) -> &Node<V>
         ensures same { value_at key result.now.rows ≡ value_at key self.now.rows }
@@ -164,8 +164,8 @@ impl<V> Node<V> {
         }
     }
 
-    /// Finds the first row whose number or key is this one or higher, or returns `None` if there is none. A look counts
-    /// as no step.
+    /// Finds the first row whose key is this one or higher, or returns `None` if there is none. A look counts as no
+    /// step.
     pub fn first_from(&self, key: u64) -> Option<(u64, &V)>
         ensures { option_map (λ r. (r.0, r.1.now)) result ≡ find (λ p. nat_le key p.0) self.now.rows }
     {
@@ -192,7 +192,7 @@ impl<V> Node<V> {
         }
     }
 
-    /// Folds the rows in key order. A look counts as no step.
+    /// Folds the rows in the order of keys. A look counts as no step.
     pub fn fold<A, F: Fn(A, u64, &V) -> A>(&self, init: A, f: &F) -> A
         requires { F.IsAlwaysCallable f.now }
         ensures { FoldsRows (λ a k r b. F.post f.now a k r b) init self.now.rows result }
@@ -214,7 +214,8 @@ impl<V> Node<V> {
         }
     }
 
-    /// Hands each row in key order to a closure, with what it writes to. A look counts as no step.
+    /// Hands each row, in the order of keys, to a closure, together with what the closure writes to. A look counts as
+    /// no step.
     pub fn walk<A, F: Fn(&mut A, u64, &V)>(&self, so_far: &mut A, f: &F)
         requires { F.IsAlwaysCallable f.now }
         ensures { WalksRows (λ a k r b. F.post f.now a k r tt b) so_far.old self.now.rows so_far.new }
@@ -232,7 +233,7 @@ impl<V> Node<V> {
         }
     }
 
-    /// Returns the parts of a node.
+    /// Takes a node apart, and returns its parts.
     fn into_body(self) -> Body<V, Box<Node<V>>>
         ensures seen { seen result ≡ self }
         ensures whole { IsNode result }
@@ -242,8 +243,8 @@ impl<V> Node<V> {
 }
 
 impl<V: Copy> Node<V> {
-    /// Puts the next rows from a key on into an empty page, as many as one leaf has: some where there are any. A look
-    /// counts as no step.
+    /// Puts the next rows, from a key on, into an empty page, as many as one leaf has. It puts at least one if there is
+    /// one. A look counts as no step.
     pub fn page_from(&self, key: u64, page: &mut ArrayVec<(u64, V), 32>)
         requires { page.old.items ≡ [] }
         ensures { IsPage key self.now.rows page.new.items }
@@ -266,7 +267,7 @@ impl<V: Copy> Node<V> {
 }
 
 impl<V: Drop> Node<V> {
-    /// Replaces the value at a key in place, and gives the old one. `Err` with the new one where the key isn't there.
+    /// Replaces the value at a key in place, and returns the old one, or `Err` with the new one if the key isn't there.
     pub fn replace(&mut self, key: u64, value: V) -> Result<V, V>
         ensures rows { self.new ≡ record self.old { rows = with_row_at key_of_pair key (key, value) self.old.rows } }
         ensures well { IsWell self.new }
@@ -290,7 +291,8 @@ impl<V: Drop> Node<V> {
         self.revise_row::<E, false>(key, 0, 0, revision)
     }
 
-    /// Revises as `revise` does, and quicker in a dense tree, as `find_by_guess` is.
+    /// Changes the value at a key where it lies, as `revise` does. It is quicker than that in a dense tree, in the same
+    /// way as `find_by_guess`.
     pub fn revise_by_guess<E: Revise<V>>(&mut self, key: u64, shift: u32, revision: &mut E) -> bool
         ensures rows { self.new ≡ record self.old { rows = revised_at key (E.revised revision.old) self.old.rows } }
         ensures well { IsWell self.new }
@@ -301,7 +303,7 @@ impl<V: Drop> Node<V> {
         self.revise_row::<E, true>(key, shift, least, revision)
     }
 
-    /// Changes the value at a key, which it looks for as `find_row` does.
+    /// Changes the value at a key, for which it looks as `find_row` does.
     fn revise_row<E: Revise<V>, const GUESSED: bool>(
         &mut self,
         key: u64,
@@ -337,7 +339,7 @@ impl<V: Drop> Node<V> {
         }
     }
 
-    /// Puts a row in place where its leaf has room, with no new node: the value is taken where it went in.
+    /// Adds a row in place if its leaf has room, without a new node. The value is taken if the row went in.
     pub fn insert_room(&mut self, key: u64, value: &mut Option<V>) -> Room
         requires small { key < key_limit }
         requires some { IsSome value.old }
@@ -365,8 +367,8 @@ impl<V: Drop> Node<V> {
 }
 
 impl<V: Drop + Default> Node<V> {
-    /// Takes the row at a key out in place, and evens out what is less than half full. Two steps a level, and four for
-    /// each two neighbours that are evened out. A root may be left with one child.
+    /// Removes the row at a key in place, and evens out nodes that are less than half full. It takes two steps for each
+    /// level, and four for each two neighbours that are evened out. A root may be left with one child.
     pub fn remove(&mut self, key: u64, meter: &mut Meter) -> Option<V>
         requires { 0 < self.old.height → 2 ≤ self.old.width }
         ensures new { IsShrunk key self.old self.new }
@@ -379,7 +381,7 @@ impl<V: Drop + Default> Node<V> {
         gone
     }
 
-    /// Takes the row at a key out in place, and puts its value into `gone`. The value moves but once.
+    /// Removes the row at a key in place, and puts its value into `gone`. The value moves only once.
     fn take_at(&mut self, key: u64, gone: &mut Option<V>, meter: &mut Meter)
         requires { 0 < self.old.height → 2 ≤ self.old.width }
         ensures new { IsShrunk key self.old self.new }
@@ -406,9 +408,9 @@ impl<V: Drop + Default> Node<V> {
         }
     }
 
-    /// Puts a row whose key isn't there in place. Each full node on its way first gives entries to the one before it,
-    /// where that one has room for many, in four steps; else it is halved, in three steps and with one blank node. Two
-    /// steps a level besides.
+    /// Adds a row whose key isn't there, in place. Each full node on the path first gives entries to the one before it,
+    /// if that has much room, in four steps, and is otherwise halved, in three steps and with one blank node. In
+    /// addition, there are two steps for each level.
     pub fn insert_split(
         &mut self,
         key: u64,
@@ -464,7 +466,7 @@ impl<V: Drop + Default> Node<V> {
         *self = root_over(low, high, meter);
     }
 
-    /// Takes away an inner root that has one child, and its level with it: one step.
+    /// Removes an inner root that has one child, and with it a level. It takes one step.
     pub fn lower(&mut self, meter: &mut Meter)
         requires well { IsWell self.old }
         requires some { 0 < self.old.height → 0 < self.old.width }
@@ -502,8 +504,8 @@ impl<V: Drop + Default> Node<V> {
         }
     }
 
-    /// Evens out a node and its next neighbour of the same height in place. True where the first has all rows now; else
-    /// both are half full. It takes four steps.
+    /// Evens out a node and its next neighbour of the same height in place. It returns true if the first has all rows
+    /// then, and otherwise both are half full. It takes four steps.
     pub fn even_with(&mut self, next: &mut Node<V>, meter: &mut Meter) -> bool
         requires level { self.old.height ≡ next.old.height }
         requires ordered { IsOrderedBy key_of_pair (self.old.rows ++ next.old.rows) }
@@ -514,8 +516,8 @@ impl<V: Drop + Default> Node<V> {
         self.share_with(next, low, meter)
     }
 
-    /// Moves entries between a node and its next neighbour of the same height until the first has `low`. True where it
-    /// has all rows then; else both are half full. It takes four steps.
+    /// Moves entries between a node and its next neighbour of the same height until the first has `low`. It returns
+    /// true if the first has all rows then, and otherwise both are half full. It takes four steps.
     pub(crate) fn share_with(&mut self, next: &mut Node<V>, low: usize, meter: &mut Meter) -> bool
         requires level { self.old.height ≡ next.old.height }
         requires ordered { IsOrderedBy key_of_pair (self.old.rows ++ next.old.rows) }
@@ -542,14 +544,15 @@ impl<V: Drop + Default> Node<V> {
     }
 }
 
-/// Puts a value in the place of what was there.
+/// Puts a value into a place, and drops what was there.
 fn put<V: Drop>(gone: &mut Option<V>, value: Option<V>)
     ensures { gone.new ≡ value }
 {
     *gone = value;
 }
 
-/// Takes a removal below a child, which took a row out or not, into the child's count. Its least key.
+/// Updates the count of a child after a removal below it, which removed a row or not, and returns the child's least
+/// key.
 fn note_gone<V>(child: &mut Child<Box<Node<V>>>, is_gone: bool) -> u64
     ensures node { child.new.node ≡ child.old.node }
     ensures least { 0 < child.old.node.value.width → StartsWith result child.old.node.value.rows }
@@ -559,7 +562,7 @@ fn note_gone<V>(child: &mut Child<Box<Node<V>>>, is_gone: bool) -> u64
     child.node.least()
 }
 
-/// Returns the least key of a child after an insertion below it, which put a row in or not.
+/// Returns the least key of a child after an insertion below it, which added a row or not.
 fn least_after(least: u64, key: u64, is_in: bool) -> u64
     ensures { result ≡ (if is_in then min least key else least) }
 {
@@ -569,7 +572,7 @@ fn least_after(least: u64, key: u64, is_in: bool) -> u64
     least
 }
 
-/// Makes a node a leaf without entries, where it isn't one.
+/// Makes a node a leaf without entries, if it isn't one.
 fn make_blank<V: Drop + Default>(node: &mut Node<V>)
     ensures { node.new ≡ record { height = 0; width = 0; rows = [] } }
 {
@@ -579,7 +582,7 @@ fn make_blank<V: Drop + Default>(node: &mut Node<V>)
     *node = Node::new();
 }
 
-/// Makes a node's parts those of a leaf without entries, where it has none left.
+/// Replaces the parts of a node with those of a leaf without entries, if no child is left.
 fn let_go<V: Drop + Default>(body: &mut Body<V, Box<Node<V>>>, none: bool)
     ensures gone { none ≡ true → IsNode body.new }
     ensures kept { none ≡ false → body.new ≡ body.old }
@@ -590,7 +593,7 @@ fn let_go<V: Drop + Default>(body: &mut Body<V, Box<Node<V>>>, none: bool)
     *body = Body::Leaf(empty_leaf());
 }
 
-/// Makes a node a leaf of these entries.
+/// Makes a node a leaf with these entries.
 fn put_leaf<V: Drop>(node: &mut Node<V>, leaf: Leaf<V>)
     requires { IsLeaf leaf }
     ensures { node.new ≡ seen_leaf leaf }
@@ -600,7 +603,7 @@ fn put_leaf<V: Drop>(node: &mut Node<V>, leaf: Leaf<V>)
     };
 }
 
-/// Makes a node an inner node of these children.
+/// Makes a node an inner node with these children.
 fn put_inner<V: Drop>(node: &mut Node<V>, inner: Inner<Box<Node<V>>>)
     requires { IsInner inner }
     ensures { node.new ≡ seen_inner inner }
@@ -626,7 +629,7 @@ pub fn insert_child<V: Drop>(inner: &mut Inner<Box<Node<V>>>, place: usize, node
     put_child(inner, place, least, Child { count, node });
 }
 
-/// Returns a new root over the halves of a full node.
+/// Makes a new root over the halves of a full node.
 fn root_over<V: Drop + Default>(
     mut node: Box<Node<V>>,
     mut blank: Box<Node<V>>,
@@ -647,7 +650,7 @@ fn root_over<V: Drop + Default>(
     }
 }
 
-/// Puts the only child of an inner root in its place.
+/// Puts the only child of an inner root in the place of the root.
 #[cold]
 #[inline(never)]
 fn drop_root<V: Drop + Default>(root: &mut Node<V>, meter: &mut Meter)
@@ -661,7 +664,7 @@ fn drop_root<V: Drop + Default>(root: &mut Node<V>, meter: &mut Meter)
     *root = only_child(node, meter);
 }
 
-/// Returns the only child of an inner node.
+/// Takes an inner node apart, and returns its only child.
 fn only_child<V: Drop + Default>(node: Node<V>, meter: &mut Meter) -> Node<V>
     requires above_leaves { 0 < node.height }
     requires one { node.width ≡ 1 }
@@ -681,7 +684,7 @@ fn only_child<V: Drop + Default>(node: Node<V>, meter: &mut Meter) -> Node<V>
     }
 }
 
-/// Takes a node apart: its parts, and its box, which is now blank. It takes one step.
+/// Takes a node apart, and returns its parts, and its box, which is blank now. It takes one step.
 pub fn open<V: Drop + Default>(
     mut node: Box<Node<V>>,
     meter: &mut Meter,
@@ -696,7 +699,7 @@ pub fn open<V: Drop + Default>(
     (body, node)
 }
 
-/// Builds a leaf of these entries in a box. It takes one step.
+/// Builds a leaf with these entries in a box. It takes one step.
 pub fn build_leaf<V: Drop>(
     leaf: Leaf<V>,
     mut blank: Box<Node<V>>,
@@ -711,7 +714,7 @@ pub fn build_leaf<V: Drop>(
     blank
 }
 
-/// Builds an inner node of these children in a box. It takes one step.
+/// Builds an inner node with these children in a box. It takes one step.
 pub fn build_inner<V: Drop>(
     inner: Inner<Box<Node<V>>>,
     mut blank: Box<Node<V>>,

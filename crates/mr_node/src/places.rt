@@ -1,10 +1,10 @@
-//! Arrays of 32 places, of which the first ones are used.
+//! The arrays of 32 places, of which the first ones are used.
 ghost use Rattle.std.specs.Prelude.{◌≡◌, ◌+◌, ◌-◌, ◌<◌, ◌≤◌, List, [], ◌∷◌, ◌++◌, length, reverse, take, drop, slice_range, insert};
 ghost use Rattle.std.specs.List.{remove_range};
 
 use std::mem;
 
-/// Moves the last element to `place`, and the elements from there on up.
+/// Moves the last element to `place`, and each element from there on up by one.
 pub(crate) fn last_to<T>(items: &mut [T], place: usize)
     requires { place < length items.old }
     ensures { (front : List T) (last : T) → items.old ≡ front ++ last ∷ [] → items.new ≡ insert front place last }
@@ -12,7 +12,7 @@ pub(crate) fn last_to<T>(items: &mut [T], place: usize)
     items[place..].rotate_right(1);
 }
 
-/// Moves the elements from `start` up to `end` behind the others.
+/// Moves the elements from `start` up to `end` to the end of the others.
 pub(crate) fn move_to_end<T>(items: &mut [T], start: usize, end: usize)
     requires start_le_end { start ≤ end }
     requires in_bounds { end ≤ length items.old }
@@ -32,7 +32,7 @@ pub(crate) fn close_front<X: Drop + Default>(places: &mut [X], count: usize)
     }
 }
 
-/// Turns the order of the first `len` elements round.
+/// Reverses the order of the first `len` elements.
 pub(crate) fn turn_front<T>(items: &mut [T], len: usize)
     requires { len ≤ length items.old }
     ensures { items.new ≡ reverse (take len items.old) ++ drop len items.old }

@@ -1,4 +1,4 @@
-//! Inner nodes that lose or get a child.
+//! The inner nodes that lose a child or get one.
 ghost use Rattle.std.specs.Prelude.{◌≡◌, ◌+◌, ◌-◌, ◌*◌, ◌<◌, ◌≤◌, ℕ, None, IfSome, length, take, drop, slice_index_or};
 ghost use Rattle.mr_node.specs.Levels.{children_of, widths_of, IsInner, IsInnerOf};
 ghost use Rattle.mr_node.specs.Pairs.{IsShare};
@@ -9,9 +9,10 @@ use crate::children::{child_place, put_child, take_child};
 use crate::entry_lists::low_of;
 use crate::{Child, Inner, Meter, Node, Stock};
 
-/// A full child gives to the one before it where that one has so many at most,
+/// A full child gives entries to the one before it if that one has at most this many,
 const GIVEN_FROM: usize = 24;
-/// until it has so many: room is left in both, and rows that come in rising order leave nearly full nodes behind.
+/// until that one has this many. So both have room left, and rows that come in rising order leave nearly full nodes
+/// behind.
 pub(crate) const GIVEN_TO: usize = 29;
 
 /// Returns the width of the child at a place.
@@ -25,7 +26,7 @@ fn child_width<V>(children: &[Option<Child<Box<Node<V>>>>; 32], place: usize) ->
     }
 }
 
-/// Counts the rows of a child anew.
+/// Sets the count of a child to that of its rows.
 fn count_anew<V>(child: &mut Child<Box<Node<V>>>)
     ensures node { child.new.node ≡ child.old.node }
     ensures count { child.new.count ≡ length child.old.node.value.rows }
@@ -43,8 +44,8 @@ fn pair_width<V>(inner: &Inner<Box<Node<V>>>, place: usize) -> usize
     child_width(&inner.children, place) + child_width(&inner.children, place + 1)
 }
 
-/// Moves entries between the child at `place` and the next one until the first has `low`: true where the next one is
-/// empty then. It takes four steps.
+/// Moves entries between the child at `place` and the next one until the first has `low`. It returns true if the next
+/// one is empty then. It takes four steps.
 fn share_pair<V: Drop + Default>(
     inner: &mut Inner<Box<Node<V>>>,
     place: usize,
@@ -73,7 +74,7 @@ fn share_pair<V: Drop + Default>(
     }
 }
 
-/// Evens out the child at `place` and the next one; one that is empty then is dropped. It takes four steps.
+/// Evens out the child at `place` and the next one, and drops one that is empty then. It takes four steps.
 fn join_pair<V: Drop + Default>(inner: &mut Inner<Box<Node<V>>>, place: usize, meter: &mut Meter)
     requires loose { IsInnerOf 15 inner.old }
     requires within { place + 1 < inner.old.len }
@@ -86,8 +87,9 @@ fn join_pair<V: Drop + Default>(inner: &mut Inner<Box<Node<V>>>, place: usize, m
     }
 }
 
-/// Returns the first of the two neighbours that share anew where the child at `place` is thin: it and the one before it
-/// where both fit one node, or where it is the last; else it and the next one.
+/// Returns the place of the first of the two neighbours to even out when the child at `place` is less than half full.
+/// These are that child and the one before it, if both fit into one node or the child is the last one, and otherwise
+/// that child and the next one.
 fn pair_of<V>(inner: &Inner<Box<Node<V>>>, place: usize) -> usize
     requires loose { IsInnerOf 15 inner.now }
     requires two { 2 ≤ inner.now.len }
@@ -124,7 +126,8 @@ fn rebalance_thin<V: Drop + Default>(
     join_pair(inner, first, meter);
 }
 
-/// Rebalances an inner node whose child at `place` may be one short of half full: four steps where it is, else none.
+/// Rebalances an inner node whose child at `place` may be one short of half full. It takes four steps if the child is,
+/// and none otherwise.
 pub(crate) fn rebalance<V: Drop + Default>(
     inner: &mut Inner<Box<Node<V>>>,
     place: usize,
@@ -143,7 +146,7 @@ pub(crate) fn rebalance<V: Drop + Default>(
     rebalance_thin(inner, place, meter);
 }
 
-/// Halves the full child at a place: its upper half goes into the blank node, behind it.
+/// Halves the full child at a place. Its upper half goes into the blank node, which becomes the next child.
 fn split_child<V: Drop + Default>(
     inner: &mut Inner<Box<Node<V>>>,
     place: usize,
@@ -168,9 +171,9 @@ fn split_child<V: Drop + Default>(
     put_child(inner, place + 1, least, Child { count, node: blank });
 }
 
-/// Shares or splits the full child at a place: it gives entries to the one before it where that has room for many, in
-/// four steps; else it is halved, in three steps and with one blank node. The place of the first of the two that have
-/// its entries.
+/// Shares or halves the full child at a place. The child gives entries to the one before it, if that has much room, in
+/// four steps, and is otherwise halved, in three steps and with one blank node. It returns the place of the first of
+/// the two children that have its entries.
 fn share_or_split<V: Drop + Default>(
     inner: &mut Inner<Box<Node<V>>>,
     place: usize,
@@ -196,7 +199,7 @@ fn share_or_split<V: Drop + Default>(
     place
 }
 
-/// Finds the child to which a key belongs, and shares or splits it first where it is full.
+/// Finds the child to which a key belongs, after sharing or halving it if it is full.
 pub(crate) fn make_room<V: Drop + Default>(
     inner: &mut Inner<Box<Node<V>>>,
     key: u64,

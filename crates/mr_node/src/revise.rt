@@ -1,9 +1,10 @@
-//! Changes of a value where it lies.
+//! The changes of a value where it lies.
 ghost use Rattle.std.specs.Prelude.{◌≡◌};
 
 use std::mem;
 
-/// What changes a value in place: `revised` is the value that it makes of one, `spent` is it after that.
+/// A change of a value in place. In contracts, `revised` is the value that it makes of one, and `spent` is the change
+/// after that.
 pub trait Revise<V> {
     ghost revised: { Self → V → V };
 
@@ -15,7 +16,7 @@ pub trait Revise<V> {
         ensures spent { self.new ≡ spent self.old value.old };
 }
 
-/// Puts a value in place of one, and has that one then.
+/// The change that puts a value in the place of another one, and keeps that one.
 #[derive(Drop)]
 pub(crate) struct Swap<V> {
     pub(crate) value: V,

@@ -1,21 +1,21 @@
-//! The answer of an insertion that takes no memory.
+//! The result of an insertion that takes no memory.
 
 ghost use Rattle.std.specs.Prelude.{◌≡◌};
 ghost use Rattle.mr_node.specs.Growth.{is_done};
 
-/// What became of a row that was to go into a node without any new node.
+/// The result of adding a row to a node without a new node.
 #[derive(Drop)]
 pub enum Room {
-    /// It went in.
+    /// The row was added.
     Done,
-    /// A row with the key is there.
+    /// A row with the key is there already.
     Exists,
     /// The leaf to which the key belongs is full.
     Full,
 }
 
 impl Room {
-    /// Returns whether the row went in.
+    /// Returns whether the row was added.
     pub(crate) fn is_done(&self) -> bool
         ensures { result ≡ is_done self.now }
     {

@@ -1,4 +1,4 @@
-//! Blank nodes, taken ahead of a change.
+//! The blank nodes, which are taken ahead of a change.
 ghost use Rattle.std.specs.Prelude.{◌≡◌, ◌+◌, ◌<◌, ◌≤◌, ℕ, max, MatchResult, OnErr};
 
 use crate::Node;
@@ -6,7 +6,7 @@ use std::alloc::Global;
 use std::marker::Model;
 use tatp_rows::Refusal;
 
-/// Boxed blank nodes, seen as their number. Trees grow out of them, so that a change of a tree takes no memory.
+/// Blank nodes in boxes, seen as their number. Trees grow from them, so that a change of a tree takes no memory.
 pub type Stock<V> = Blanks<Node<V>>;
 
 /// Boxes, seen as their number.
@@ -33,7 +33,7 @@ impl<N> Blanks<N> {
         }
     }
 
-    /// Returns the allocator of which blank nodes are taken.
+    /// Returns the allocator from which blank nodes are taken.
     pub fn alloc(&self) -> Global {
         *self.boxes.allocator()
     }
@@ -49,8 +49,8 @@ impl<V: Drop + Default> Blanks<Node<V>> {
         Ok(stock)
     }
 
-    /// Takes blank nodes until there are `count`. It returns `Memory` if the system refuses memory for them: those that
-    /// were taken stay.
+    /// Takes blank nodes until there are `count`. It returns `Memory` if the system refuses memory for them, and keeps
+    /// those that it took before.
     pub fn fill(&mut self, count: usize) -> Result<(), Refusal>
         ensures filled { MatchResult result (λ _. self.new ≡ max self.old count) (λ why. why ≡ Refusal.Memory) }
         ensures short { OnErr result ((self.old ≤ self.new) × (self.new < count)) }
@@ -79,7 +79,7 @@ impl<V: Drop + Default> Blanks<Node<V>> {
         self.boxes.len()
     }
 
-    /// Gives one of the blank nodes, of which there has to be one.
+    /// Returns one of the blank nodes. There must be one.
     pub fn give(&mut self) -> Box<Node<V>>
         requires { 0 < self.old }
         ensures { self.new + 1 ≡ self.old }
