@@ -1,7 +1,7 @@
 -- What a record asks for.
 use Rattle.hlr_core.specs.declared.event.Event.{Event}
 
--- an event for the register, one of the reports, or a re-cut to the bounds that the record's fields spell
+-- an event for the register, one of the reports, or a recut to the bounds that the record's fields spell
 pub data Command : Type 0 where
   Ask : Event → Command
   Views : Command

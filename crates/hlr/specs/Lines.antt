@@ -98,7 +98,7 @@ decimals_text ns = flat_map (λ n. codes "," ++ decimal n) ns
 unfoldable pub bounds_line : List ℕ → List ℕ
 bounds_line bounds = codes "bounds" ++ decimals_text bounds ++ codes "\n"
 
--- the line of a re-cut: how many bounds were moved, or its refusal
+-- the line of a recut: how many bounds were moved, or its refusal
 abbrev pub recut_line : Result ℕ Refusal → List ℕ
 recut_line (Ok moves) = total_line (codes "recut,") moves
 recut_line (Err why) = refused_line why

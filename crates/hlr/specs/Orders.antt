@@ -12,7 +12,7 @@ use Rattle.hlr.specs.Command.{Command as command}
 use Rattle.hlr.specs.Records.{bounds_of, command_of}
 use Rattle.hlr.specs.Text.{CommandText, RecordText, RecordsText, RecutText}
 
--- the order of a re-cut to the bounds that were read, if they are some
+-- the order of a recut to the bounds that were read, if they are some
 abbrev pub recut_order : Result (ArrayVec ℕ) Refusal → List Order
 recut_order (Ok bounds) = order.Recut bounds ∷ []
 recut_order (Err why) = []
@@ -28,7 +28,7 @@ abbrev pub orders_of : List (List (List ℕ)) → List Order
 orders_of [] = []
 orders_of (fields ∷ rows) = order_of fields (command_of fields) ++ orders_of rows
 
--- the answer to a re-cut that its line tells
+-- the answer to a recut that its line tells
 abbrev pub recut_answer_in : (bounds : Result (ArrayVec ℕ) Refusal) (before : Store) (text : List ℕ) (after : Store)
     → RecutText bounds before text after → List Answer
 recut_answer_in (Ok bounds) before text after told = answer.Recut told.answer ∷ []

@@ -209,7 +209,7 @@ dissolve_of fields = do
   part ← number_field (field fields 1)
   Ok (command.Ask (event.Dissolve part))
 
--- the bounds of a re-cut; no register has more than 15, so more are Field
+-- the bounds of a recut; no register has more than 15, so more are Field
 unfoldable pub bound_fields : List (List ℕ) → Result (List ℕ) Refusal
 bound_fields texts = if nat_lt MOST_BOUNDS (length texts) then Err Field else number_fields texts
 

@@ -26,7 +26,7 @@ WritesWhole fault.Thread written text = written ≡ text
 WritesWhole fault.Read written text = written ≡ text
 
 -- records that a run answered, as many as it may at most, with their text and the store after them: the text of each
--- tells its answer, what they order of the register is a right run with these answers, and gives, takes, re-cuts and
+-- tells its answer, what they order of the register is a right run with these answers, and gives, takes, recuts and
 -- parts that come and go change none of them but Moving
 pub record AnsweredRecords (start : Store) : Type 0 where
   pub rows : List (List (List ℕ))

@@ -23,7 +23,7 @@ pub record Answered (before : Store) (event : Event) (text : List ℕ) (after : 
   pub right : IsStep event before reply after
   pub line : text ≡ reply_line reply
 
--- a re-cut to bounds is answered by the line of a right answer
+-- a recut to bounds is answered by the line of a right answer
 pub record RecutAnswered (before : Store) (bounds : List ℕ) (text : List ℕ) (after : Store) : Type 0 where
   pub answer : Result ℕ Refusal
   pub right : IsRecut bounds before answer after
@@ -33,7 +33,7 @@ pub record RecutAnswered (before : Store) (bounds : List ℕ) (text : List ℕ) 
 abbrev pub proposal_line : Store → List ℕ
 proposal_line store = bounds_line (proposal (published_weights store) (parts_in store) store.width)
 
--- a re-cut to the bounds that were read is answered; what is no list of bounds is answered by its refusal
+-- a recut to the bounds that were read is answered; what is no list of bounds is answered by its refusal
 abbrev pub RecutText : Result (ArrayVec ℕ) Refusal → Store → List ℕ → Store → Type 0
 RecutText (Ok bounds) before text after = RecutAnswered before bounds.items text after
 RecutText (Err why) before text after = (text ≡ refused_line why) × (after ≡ before)

@@ -1,4 +1,4 @@
--- What a call from C does to the handle that it is passed, and answers.
+-- What a call from C does to the handle that it is passed, and what it returns.
 use Rattle.std.specs.Prelude.{◌≡◌, ◌⊎◌, List, ℕ, Option, Some, None, Result, Ok, Err}
 use Rattle.tatp_rows.specs.Refusal.{code_of}
 use Rattle.tatp_rows.specs.declared.refusal.Refusal.{Refusal}
@@ -11,54 +11,56 @@ use Rattle.hlr_core.specs.declared.event.Reply.TheVariants as reply
 use Rattle.hlr_lent.specs.Away.{IsAway}
 use Rattle.hlr_c.specs.declared.codes.TheConstants.{AWAY}
 
--- a call on a handle: one that isn't open stays so, and the answer is one of its own; to the register or the part of an
--- open one it does what it is to do, and that stays in the handle
+-- a call on a handle: a closed one stays closed, and the answer says so; for an open one, the call does to its register
+-- or part what it should, and the handle keeps that
 abbrev pub IsCall : {S X : Type 0} → X → (S → X → S → Type 0) → Option S → X → Option S → Type 0
 IsCall closed Does None answer after = (answer ≡ closed) × (after ≡ None)
 IsCall closed Does (Some kept) answer None = ⊥
 IsCall closed Does (Some kept) answer (Some next) = Does kept answer next
 
--- a reply to what is asked for: a right step of the event; or the refusal of a field, and nothing changes
+-- a reply to what is asked for: by a right step of the event; or the refusal of a field, which changes nothing
 abbrev pub IsReply : Result Event Refusal → OwnersState → Reply → OwnersState → Type 0
 IsReply (Ok event) before said after = IsRegisterStep event before said after
 IsReply (Err why) before said after = (said ≡ reply.Refused why) × (after ≡ before)
 
--- what is asked for waits for a part that is out
+-- what is asked for needs a lent part
 abbrev pub IsWaiting : Result Event Refusal → OwnersState → Type 0
 IsWaiting (Ok event) register = IsAway event register
 IsWaiting (Err why) register = ⊥
 
--- an answer that tells such a reply, just where it doesn't wait; or that it waits, and nothing changes
+-- the answer to what is asked for: exactly if this needs a lent part, the answer says so and nothing changes; otherwise
+-- it has such a reply
 abbrev pub IsAnswer : {X : Type 0} → Result Event Refusal → (Reply → X) → X → OwnersState → X → OwnersState → Type 0
 IsAnswer asked told away before answer after =
     ((answer ≡ away) × IsWaiting asked before × (after ≡ before))
     ⊎ (¬ (IsWaiting asked before) × (said : Reply) × IsReply asked before said after × (answer ≡ told said))
 
--- the code of an event of which a part is out: that of a refusal that is known without it, or AWAY
+-- the code of an event that needs a lent part: that of a refusal that is known without the part, or AWAY
 abbrev pub IsAwayCode : Event → OwnersState → ℕ → Type 0
 IsAwayCode event register code =
     ((code ≡ AWAY) × IsAway event register)
     ⊎ (¬ (IsAway event register) × (why : Refusal)
     × IsRegisterStep event register (reply.Refused why) register × (code ≡ code_of why))
 
--- a re-cut to bounds, or the refusal of what they were handed in as
+-- a recut to bounds, or the refusal of the bounds that C hands in
 abbrev pub IsRecutReply : Result (List ℕ) Refusal → OwnersState → Result ℕ Refusal → OwnersState → Type 0
 IsRecutReply (Ok bounds) before done after = IsRegisterRecut bounds before done after
 IsRecutReply (Err why) before done after = (done ≡ Err why) × (after ≡ before)
 
--- a bound between parts would move, one of which is out
+-- a bound would move whose parts aren't both home
 abbrev pub IsCutWaiting : Result (List ℕ) Refusal → OwnersState → Type 0
 IsCutWaiting (Ok bounds) register = ¬ (IsHomeToCut bounds register)
 IsCutWaiting (Err why) register = ⊥
 
--- an answer that tells what a re-cut did, just where it doesn't wait; or that it waits, and nothing changes
+-- the answer to a recut: exactly if it needs a lent part, the answer says so and nothing changes; otherwise it says
+-- what the recut did
 abbrev pub IsRecutAnswer : {X : Type 0} → Result (List ℕ) Refusal → (Result ℕ Refusal → X) → X → OwnersState → X → OwnersState → Type 0
 IsRecutAnswer asked told away before answer after =
     ((answer ≡ away) × IsCutWaiting asked before × (after ≡ before))
     ⊎ (¬ (IsCutWaiting asked before) × (done : Result ℕ Refusal)
     × IsRecutReply asked before done after × (answer ≡ told done))
 
--- what is done with all parts at home; where one is out the answer says so, and nothing changes
+-- what is done if all parts are home; if one is lent, the answer says so, and nothing changes
 abbrev pub IsAtHome : {X : Type 0} → X → (OwnersState → X → OwnersState → Type 0) → OwnersState → X → OwnersState → Type 0
 IsAtHome away Does before answer after =
     ((answer ≡ away) × ¬ (AllHome before.owners) × (after ≡ before)) ⊎ (AllHome before.owners × Does before answer after)

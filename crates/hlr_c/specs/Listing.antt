@@ -1,4 +1,4 @@
--- What C is told of rows that no event reads. The register stays as it is.
+-- What C reads of rows that no event reads. The register stays as it is.
 use Rattle.std.specs.Prelude.{◌≡◌, ◌⊎◌, ◌&&◌, ℕ, Bool, true, List, Result, Ok, Err, ok_or}
 use Rattle.tatp_rows.specs.Number.{number_of}
 use Rattle.tatp_rows.specs.Refusal.{code_of}
@@ -15,24 +15,24 @@ use Rattle.hlr_core.specs.Later.{AreLater}
 use Rattle.hlr_core.specs.Rows.{bearer_answer, facility_read, forwarding_read}
 use Rattle.hlr_c.specs.declared.codes.TheConstants.{DONE}
 
--- an answer that tells what is read, and the register stays
+-- an answer with what is read, after which the register is as it was
 abbrev pub IsRead : {R X : Type 0} → (OwnersState → Result R Refusal) → (Result R Refusal → X) → OwnersState → X → OwnersState → Type 0
 IsRead read told before answer after = (after ≡ before) × (answer ≡ told (read before))
 
--- the same, whatever jobs have done to the parts that are out
+-- the same, regardless of what jobs have done to the lent parts
 pub record IsReadWhileOut {R X : Type 0} (read : OwnersState → Result R Refusal) (told : Result R Refusal → X) (before : OwnersState) (answer : X) (after : OwnersState) : Type 0 where
   pub here : IsRead read told before answer after
   pub while_out : (holdings : List HoldingState) → AreLater before.owners (with_outs before.owners holdings)
       → answer ≡ told (read (register_with before holdings))
 
--- the same of rows of a subscriber; or, just where the fields are in range and the part is out that has the subscriber,
--- that it is
+-- the same for the rows of a subscriber; or the answer says that the part of the subscriber is lent, exactly if it is
+-- and the fields are in range
 abbrev pub IsReadAt : {R X : Type 0} → ℕ → Bool → (OwnersState → Result R Refusal) → (Result R Refusal → X) → X → OwnersState → X → OwnersState → Type 0
 IsReadAt s_id fits read told away before answer after =
     ((answer ≡ away) × (fits ≡ true) × ¬ (IsHomeFor s_id before) × (after ≡ before))
     ⊎ ((fits ≡ true → IsHomeFor s_id before) × IsReadWhileOut read told before answer after)
 
--- the code, and what was read; after a refusal that stays as it was
+-- the code, and what was read; a refusal leaves the value as it was
 abbrev pub value_told : {R : Type 0} → R → Result R Refusal → ℕ × R
 value_told before (Ok value) = (DONE, value)
 value_told before (Err why) = (code_of why, before)
@@ -59,10 +59,10 @@ abbrev pub bearer_found : Result ℕ Refusal → OwnersState → Result ℕ Refu
 bearer_found (Ok number) register = bearer_answer number (store_in register)
 bearer_found (Err why) register = Err why
 
--- the subscriber who has a number: Field where it is none, then NoNumber
+-- the subscriber who has a number, or the first refusal that applies of Field and NoNumber
 abbrev pub bearer_in : ℕ → OwnersState → Result ℕ Refusal
 bearer_in sub_nbr = bearer_found (number_of sub_nbr)
 
--- the first subscriber from an s_id on, or NoSubscriber
+-- the first subscriber whose s_id is this one or higher, or NoSubscriber
 abbrev pub subscriber_from : ℕ → OwnersState → Result SubscriberRow Refusal
 subscriber_from from register = ok_or (first_subscriber from (book_in register.owners).subscribers) NoSubscriber

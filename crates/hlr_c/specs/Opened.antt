@@ -1,4 +1,4 @@
--- Opening and closing, and the parts that come and go between handles.
+-- Opening and closing, and the parts that handles lend and send home.
 use Rattle.std.specs.Prelude.{◌≡◌, ◌⊎◌, ◌≤◌, ℕ, length, Option, Some, None, ⊤}
 use Rattle.tatp_rows.specs.Refusal.{code_of}
 use Rattle.tatp_rows.specs.declared.refusal.Refusal.TheVariants.{Field, Memory, NoPart}
@@ -11,8 +11,8 @@ use Rattle.hlr_lent.specs.Sent.{holding_sent}
 use Rattle.hlr_lent.specs.declared.lent_part.Sent.{Sent}
 use Rattle.hlr_c.specs.declared.codes.TheConstants.{AWAY, DONE, NOT_OPEN, STILL_OPEN}
 
--- a handle that is open stays as it is, and the answer says so; else it has an empty register, or stays closed:
--- Field exactly where no register can be opened with so many parts and this width, or Memory
+-- an open handle stays as it is, and the answer says so; a closed one gets an empty register, or stays closed, with
+-- Field exactly if no register can be opened with so many parts and this width, and with Memory otherwise
 abbrev pub IsOpening : ℕ → ℕ → Option OwnersState → ℕ → Option OwnersState → Type 0
 IsOpening parts width (Some register) code after = (code ≡ STILL_OPEN) × (after ≡ Some register)
 IsOpening parts width None code (Some register) =
@@ -29,17 +29,17 @@ IsClosing (Some kept) code after = (code ≡ DONE) × (after ≡ None)
 abbrev pub IsNoPart : ℕ → OwnersState → Type 0
 IsNoPart part register = length (parts_of register.regions) ≤ part
 
--- there is such a part, and it is at home
+-- there is such a part, and it is home
 abbrev pub IsThere : ℕ → OwnersState → Type 0
 IsThere part register = ¬ (IsNoPart part register) × IsPartHome part register
 
--- why a part isn't lent: there is none, it is out, or it is at home and memory is wanted
+-- the reason why a part isn't lent: there is no such part, it is lent already, or it is home and memory was refused
 abbrev pub IsKept : ℕ → OwnersState → ℕ → Type 0
 IsKept part register code =
     ((code ≡ code_of NoPart) × IsNoPart part register)
     ⊎ (((code ≡ AWAY) × ¬ (IsPartHome part register)) ⊎ ((code ≡ code_of Memory) × IsThere part register))
 
--- a part goes out of an open handle into a closed one; or neither changes, and the answer says why
+-- a part moves from an open handle to a closed one; or neither handle changes, and the answer says why
 abbrev pub IsLending : ℕ → Option OwnersState × Option HoldingState → ℕ → Option OwnersState × Option HoldingState → Type 0
 IsLending part (None, lent) code after = (code ≡ NOT_OPEN) × (after ≡ (None, lent))
 IsLending part (Some register, Some other) code after = (code ≡ STILL_OPEN) × (after ≡ (Some register, Some other))
@@ -54,7 +54,7 @@ IsSent None (Some left) = ⊥
 IsSent (Some kept) None = ⊥
 IsSent (Some kept) (Some left) = holding_sent left ≡ Some kept
 
--- a part is at home: it was, or it was sent home; or it isn't, or there is none, and nothing changes
+-- a part is home, because it was, or because it was sent home; or it isn't, or there is none, and nothing changes
 abbrev pub IsComing : ℕ → OwnersState → ℕ → OwnersState → Type 0
 IsComing part before code after =
     ((code ≡ DONE) × IsBack part before after)

@@ -1,4 +1,4 @@
--- What a call from C does to a part that is out, and answers.
+-- What a call from C does to a lent part, and what it returns.
 use Rattle.std.specs.Prelude.{◌≡◌, ◌&&◌, ℕ, Bool, true, false, nat_le, nat_lt, if◌then◌else◌, Result, Ok, Err}
 use Rattle.tatp_rows.specs.Refusal.{code_of}
 use Rattle.tatp_rows.specs.declared.refusal.Refusal.{Refusal}
@@ -18,7 +18,7 @@ use Rattle.hlr_c.specs.Told.{code_told, posted_told}
 abbrev pub has : ℕ → HoldingState → Bool
 has s_id part = nat_le part.part.lo s_id && nat_lt s_id part.part.hi
 
--- what a read tells whose fields are in range or not, of a subscriber of the part or not
+-- the answer to a read, given whether its fields are in range, and whether its subscriber is in the part's range
 abbrev pub read_by : {X : Type 0} → Bool → Bool → Action → (Reply → X) → X → HoldingState → X
 read_by false here act told elsewhere part = told (reply.Refused Field)
 read_by true false act told elsewhere part = elsewhere
@@ -29,12 +29,12 @@ abbrev pub IsPartRead : {X : Type 0} → Action → (Reply → X) → X → Hold
 IsPartRead act told elsewhere before answer after =
     (after ≡ before) × (answer ≡ read_by (is_in_range act) (has (s_id_of act) before) act told elsewhere before)
 
--- the code of a change of a subscriber who isn't the part's
+-- the code of a change for a subscriber who isn't in the part's range
 abbrev pub code_elsewhere : Action → ℕ
 code_elsewhere act = if is_in_range act then ELSEWHERE else code_of Field
 
--- a change of a subscriber of the part, which does it as a job, and refuses a field out of its range; or of another
--- one, and nothing changes
+-- a change for a subscriber in the part's range, which is done as a job, and is refused if a field is out of range; or
+-- for another subscriber, and nothing changes
 abbrev pub IsPartStep : Bool → Action → HoldingState → ℕ → HoldingState → Type 0
 IsPartStep true act before code after = (said : Reply) × IsJobDone (Act act) before said after × (code ≡ code_told said)
 IsPartStep false act before code after = (code ≡ code_elsewhere act) × (after ≡ before)
@@ -49,6 +49,6 @@ abbrev pub IsPartPost : ℕ → ℕ → HoldingState → ℕ × ℕ → HoldingS
 IsPartPost limit posted before answer after =
     (said : Reply) × IsJobDone (Post limit) before said after × (answer ≡ posted_told posted said)
 
--- the range of the part, which it keeps
+-- the range of the part, which stays as it is
 abbrev pub IsPartRange : HoldingState → ℕ × (ℕ × ℕ) → HoldingState → Type 0
 IsPartRange before answer after = (after ≡ before) × (answer ≡ (DONE, (before.part.lo, before.part.hi)))

@@ -1,4 +1,4 @@
--- What the reports tell C. They change nothing.
+-- What the reports write for C. They change nothing.
 use Rattle.std.specs.Int.{int_max, int_min}
 use Rattle.std.specs.Prelude.{◌≡◌, ℕ, ◌<◌, ◌-◌, ◌++◌, List, length, map, replicate, ℤ, pos, negsuc, slice_index_or}
 use Rattle.tatp_actions.specs.Cell.{cell}
@@ -17,13 +17,13 @@ use Rattle.hlr_c.specs.declared.rows.HlrRegion.{HlrRegion}
 use Rattle.hlr_c.specs.declared.rows.HlrRegions.{HlrRegions}
 use Rattle.hlr_c.specs.Rows.{region_for_c}
 
--- a report leaves the register, and its code is 0
+-- a report leaves the register as it is, and its code is 0
 pub record IsReport {X : Type 0} (Tells : X → Type 0) (before : OwnersState) (answer : ℕ × X) (after : OwnersState) : Type 0 where
   pub same : after ≡ before
   pub code : answer.0 ≡ DONE
   pub told : Tells answer.1
 
--- each cell as published; and what is pending of it in all owners, which is what isn't published of it
+-- what is published of each cell, and what is pending of it in all owners together, which is what is unposted
 pub record AreViews (register : OwnersState) (views : List ℤ × List ℤ) : Type 0 where
   pub published : (c : ℕ) → c < CELLS → slice_index_or views.0 c (pos 0) ≡ published (store_in register) c
   pub pending : (c : ℕ) → c < CELLS → slice_index_or views.1 c (pos 0) ≡ unposted register.owners c
@@ -57,8 +57,8 @@ AreProposed register bounds =
 abbrev pub nearest : ℤ → ℤ
 nearest n = int_max (negsuc 9223372036854775807) (int_min (pos 9223372036854775807) n)
 
--- a right sight of the register's words, which it has seen then; of each cell what is published by them, or of 64 bits
--- what is nearest, since a sight is no moment of all words
+-- a right sight of the register's words, which the register has seen then; and for each cell what is published by these
+-- words, or the nearest integer of 64 bits, because the words of a sight don't belong to one moment
 pub record IsLook (before : OwnersState) (answer : ℕ × List ℤ) (after : OwnersState) : Type 0 where
   pub words : List ℕ
   pub sight : IsSightOf (store_in before) words

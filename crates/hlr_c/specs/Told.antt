@@ -1,4 +1,4 @@
--- What a call from C answers: a code, and beside it what the reply carries. After a refusal that stays as it was.
+-- What a call from C returns, which is a code, and what it writes of the reply. A refusal writes nothing.
 use Rattle.std.specs.Prelude.{ℕ, Result, Ok, Err}
 use Rattle.tatp_rows.specs.Refusal.{code_of}
 use Rattle.tatp_rows.specs.Rows.{SubscriberRow, AccessInfoRow}
@@ -48,7 +48,7 @@ part_told before (reply.Divided part lo hi) = (DONE, record { lo = lo; hi = hi; 
 part_told before (reply.Dissolved part lo hi) = (DONE, record { lo = lo; hi = hi; is_piece = 0; number = part })
 part_told before other = (code_told other, before)
 
--- the code, and how many bounds a re-cut moved
+-- the code, and how many bounds a recut moved
 abbrev pub recut_told : ℕ → Result ℕ Refusal → ℕ × ℕ
 recut_told before (Ok count) = (DONE, count)
 recut_told before (Err why) = (code_of why, before)

@@ -1,4 +1,4 @@
--- The numbers of what is brought home, and a right refusal of it.
+-- The numbers of the rows that `gather` takes, and a right refusal of it.
 use Rattle.std.specs.Prelude.{◌≡◌, ◌⊎◌, List, None, Some}
 use Rattle.std.specs.List.{flat_map}
 use Rattle.tatp_rows.specs.Rows.{SubscriberRow}
@@ -18,7 +18,7 @@ rows_of_all holdings pieces = flat_map (λ owner. owner.part.book.subscribers) (
 abbrev pub HasTwins : Scattered → Type 0
 HasTwins apart = ¬ (HasNoTwin (rows_of_all (holdings_in apart) (pieces_in apart)))
 
--- a right refusal: a number that two rows have comes after all else but memory
+-- a right refusal: NumberTaken comes after all others but Memory
 abbrev pub IsRefusedWhole : Scattered → Refusal → Type 0
 IsRefusedWhole apart why =
     (misfit_of apart ≡ Some why) ⊎ ((misfit_of apart ≡ None) × (((why ≡ NumberTaken) × HasTwins apart) ⊎ (why ≡ Memory)))

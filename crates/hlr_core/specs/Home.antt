@@ -1,4 +1,4 @@
--- The parts on which an event works are at home.
+-- The parts on which an event works are home.
 use Rattle.std.specs.Prelude.{◌≡◌, ◌-◌, ◌<◌, ◌≤◌, ◌↔◌, ℕ, Bool, true, false, IfSome, slice_index}
 use Rattle.view_board.specs.Desks.{DeskState}
 use Rattle.hlr_owners.specs.Out.{outs_in}
@@ -11,12 +11,13 @@ use Rattle.hlr_core.specs.declared.event.Reply.{Reply}
 use Rattle.hlr_core.specs.declared.event.Reply.TheVariants.{Divided, Dissolved}
 use Rattle.hlr_core.specs.declared.route.Parts.{Parts}
 
--- whoever has the subscriber with a number is at home, if there is such a subscriber
+-- the owner that has the subscriber with a number is home, if there is such a subscriber
 abbrev pub IsBearerHome : ℕ → OwnersState → Type 0
 IsBearerHome sub_nbr h = IfSome (bearer_id (book_in h.owners).subscribers sub_nbr) (λ s_id. IsHomeFor s_id h)
 
--- the owner of the rows on which an event works is at home, or the part that posts, gives or takes; or the part that is
--- divided, or stands in front of one that is dissolved, and all behind it, whose numbers change
+-- the parts on which an event works are home: the owner of its rows; the part that posts, gives or takes; or the part
+-- that is divided, or that lies in front of one that is dissolved, and all parts behind it, because their numbers
+-- change
 abbrev pub IsHomeTo : Event → OwnersState → Type 0
 IsHomeTo (SubscriberData s_id) h = IsHomeFor s_id h
 IsHomeTo (NewDestination s_id sf_type start_time end_time) h = IsHomeFor s_id h
@@ -36,22 +37,22 @@ IsHomeTo (Take piece part) h = IsPartHome part h
 IsHomeTo (Divide part at) h = IsHomeFrom part h
 IsHomeTo (Dissolve part) h = IsHomeFrom (part - 1) h
 
--- each of these parts that is there is at home
+-- each of these parts that exists is home
 abbrev pub AreHome : Parts → OwnersState → Type 0
 AreHome parts h = (part : ℕ) → parts.first ≤ part → part < parts.end → IsPartHome part h
 
--- these parts are at home just where those that the event needs are
+-- these parts are home exactly if those that the event needs are
 abbrev pub WorksOn : Event → Parts → OwnersState → Type 0
 WorksOn event parts h = AreHome parts h ↔ IsHomeTo event h
 
--- an event names its subscriber by a number, so that the rows tell who it is
+-- an event names its subscriber by a number, so that only the rows say who it is
 abbrev pub is_by_number : Event → Bool
 is_by_number (UpdateLocation sub_nbr vlr_location) = true
 is_by_number (InsertForwarding sub_nbr sf_type start_time end_time numberx) = true
 is_by_number (DeleteForwarding sub_nbr sf_type start_time) = true
 is_by_number _ = false
 
--- the same parts are at home, the same holdings are out, and the desk of the slots that no part has is as it was
+-- the same parts are home, the same holdings are lent, and the desk of the slots that no part has is as it was
 pub record HaveSameHomes (before after : OwnersState) : Type 0 where
   pub homes : homes_in after.owners ≡ homes_in before.owners
   pub outs : outs_in after.owners ≡ outs_in before.owners
@@ -62,8 +63,8 @@ pub record IsLaterDesk (before after : DeskState) : Type 0 where
   pub board : after.board ≡ before.board
   pub seen : (w : ℕ) → slice_index before.view.seen w ≤ slice_index after.view.seen w
 
--- what an event leaves of that: a part that was divided has a new one behind it, which is at home, and one that was
--- dissolved is gone; nothing else changes any of it
+-- what an event leaves of this: a part that was divided has a new one behind it, which is home, a part that was
+-- dissolved is gone, and nothing else changes
 abbrev pub AreHomesAfter : Event → Reply → OwnersState → OwnersState → Type 0
 AreHomesAfter (Divide part at) (Divided new lo hi) before after = IsWithNew part before after
 AreHomesAfter (Dissolve part) (Dissolved front lo hi) before after = IsWithout part before after

@@ -1,5 +1,5 @@
--- Owners that others may stand for while parts are out, whatever jobs their holdings do: each subscriber keeps the
--- number.
+-- Owners that others may replace while parts are lent, because jobs were done to their holdings. Each subscriber keeps
+-- the number.
 use Rattle.std.specs.Prelude.{◌≡◌, ℕ, List, map, Option, IfSome}
 use Rattle.std.specs.List.{AllZip}
 use Rattle.holding.specs.Held.{HoldingState}
@@ -15,12 +15,12 @@ numbers_of holding = map number_pair holding.part.book.subscribers
 abbrev pub numbers_at : RegionOwner → List (ℕ × ℕ)
 numbers_at owner = map number_pair (state_of owner).part.book.subscribers
 
--- an owner that another one may stand for, with the same numbers of its subscribers
+-- an owner, and another one that may replace it, with the same numbers of its subscribers
 pub record IsLater (before after : RegionOwner) : Type 0 where
   pub owner : IsLaterOwner before after
   pub numbers : numbers_at after ≡ numbers_at before
 
--- so it is with each of several
+-- each owner in a list may be replaced by the one in the same place of the other list
 abbrev pub AreLater : List RegionOwner → List RegionOwner → Type 0
 AreLater before after = AllZip IsLater before after
 
@@ -28,6 +28,6 @@ AreLater before after = AllZip IsLater before after
 abbrev pub with_owners : OwnersState → List RegionOwner → OwnersState
 with_owners h owners = record h { owners = owners }
 
--- a holding may come home as this owner's: its part is out, and jobs alone were done to it
+-- a holding may come home as this owner's: its part is lent, and only jobs were done to it
 abbrev pub IsBackWith : Option RegionOwner → HoldingState → Type 0
 IsBackWith owner holding = IsBackFor owner holding × IfSome owner (λ had. numbers_of holding ≡ numbers_at had)

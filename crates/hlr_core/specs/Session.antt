@@ -1,4 +1,4 @@
--- Jobs on the holdings of parts: what each does to its holding, and how it is answered.
+-- Jobs on the holdings of parts: what each does to its holding, and the reply to it.
 use Rattle.std.specs.Prelude.{◌≡◌, ◌==◌, ◌↔◌, ℕ, not, List, [], ◌∷◌, ◌++◌, None, Some, Result, position, slice_get, slice_set, ⊤}
 use Rattle.std.specs.List.{filter}
 use Rattle.tatp_rows.specs.declared.refusal.Refusal.{Refusal}
@@ -49,12 +49,12 @@ abbrev pub IsNumberless : Job → Type 0
 IsNumberless (Act act) = given_number act ≡ None
 IsNumberless (Post limit) = ⊤
 
--- a job of a part: an action on a subscriber of the part, that gives no number, or a posting
+-- a job of a part: a posting, or an action on a subscriber of the part that gives no number
 abbrev pub IsJobOf : List Region → ℕ → Job → Type 0
 IsJobOf regions p (Act act) = (place_of (s_id_of act) regions ≡ Some (place.Part p)) × IsNumberless (Act act)
 IsJobOf regions p (Post limit) = ⊤
 
--- a holding can be asked for the job: the subscriber of an action lies in its range
+-- a holding can do the job: the subscriber of an action is in its range
 abbrev pub IsWithinJob : HoldingState → Job → Type 0
 IsWithinJob holding (Act act) = IsWithin holding.part.lo holding.part.hi (s_id_of act)
 IsWithinJob holding (Post limit) = ⊤
@@ -75,7 +75,7 @@ pub record JobReply : Type 0 where
   pub job : Job
   pub answer : Reply
 
--- jobs done one after another, each by the holding of its part, whatever the other parts are
+-- jobs are done one after another, each by the holding of its part, no matter what the other parts are
 abbrev pub AreDone : List Region → List RegionOwner → List JobReply → List RegionOwner → Type 0
 AreDone regions before [] after = after ≡ before
 AreDone regions before (one ∷ jobs) after =
@@ -89,8 +89,8 @@ jobs_of p jobs = filter (λ one. one.part == p) jobs
 abbrev pub jobs_of_others : ℕ → List JobReply → List JobReply
 jobs_of_others p jobs = filter (λ one. not (one.part == p)) jobs
 
--- jobs of different parts commute: those of any part may as well be done before all others, with the same replies, and
--- lead to the same owners
+-- jobs of different parts commute: the jobs of any part can be done before all others, with the same replies, and lead
+-- to the same owners
 abbrev pub JobsCommute : List Region → Type 0
 JobsCommute regions =
     (p : ℕ) (jobs : List JobReply) (before after : List RegionOwner)

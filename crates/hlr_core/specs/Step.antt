@@ -1,4 +1,4 @@
--- Right steps: what an event asks for, which reply it may have, and the store after it. Memory is the one free choice.
+-- Right steps: what an event asks for, which reply it may have, and the store after it. Only Memory is a free choice.
 use Rattle.std.specs.Prelude.{◌≡◌, ℕ, ◌==◌, ◌&&◌, ◌||◌, not, Bool, true, false, List, Option, Some, None, option_map, Result, Ok, Err, if◌then◌else◌, ◌⊎◌}
 use Rattle.tatp_rows.specs.Rows.{SubscriberRow, is_between, is_start_time}
 use Rattle.tatp_rows.specs.declared.ranges.TheConstants.{LAST_SUBSCRIBER}
@@ -25,7 +25,7 @@ use Rattle.hlr_core.specs.declared.event.Event.TheVariants.{SubscriberData, NewD
 use Rattle.hlr_core.specs.declared.event.Reply.{Reply}
 use Rattle.hlr_core.specs.declared.event.Reply.TheVariants as reply
 
--- the subscriber that an action gives a number, and that number, if it gives one
+-- the subscriber to whom an action gives a number, and that number, if it gives one
 abbrev pub given_number : Action → Option (ℕ × ℕ)
 given_number (action.AddSubscriber row) = Some (row.s_id, row.sub_nbr)
 given_number (action.SetNumber s_id sub_nbr) = Some (s_id, sub_nbr)
@@ -41,12 +41,12 @@ abbrev pub has_another : ℕ → Option SubscriberRow → Bool
 has_another sub_nbr None = false
 has_another sub_nbr (Some row) = not (row.sub_nbr == sub_nbr)
 
--- the number that is given is another subscriber's
+-- the number that is given belongs to another subscriber
 abbrev pub takes_number : Option (ℕ × ℕ) → Book → Bool
 takes_number None book = false
 takes_number (Some given) book = is_anothers given.0 (bearer_of book.subscribers given.1)
 
--- the number that is given takes the place of another
+-- the number that is given replaces another one
 abbrev pub changes_number : Option (ℕ × ℕ) → Book → Bool
 changes_number None book = false
 changes_number (Some given) book = has_another given.1 (subscriber_at book given.0)
@@ -62,7 +62,7 @@ whole_effect act book =
     if takes_number (given_number act) book && is_done (effect act book).0 then (row_reply.Refused refusal.NumberTaken, book)
     else effect act book
 
--- a right outcome on the whole book: the effect, or Memory in place of Done where a row is added or a number changed
+-- a right outcome on the whole book: the effect, or Memory in place of Done if a row is added or a number changed
 abbrev pub IsWholeOutcome : Action → Book → RowReply → Book → Type 0
 IsWholeOutcome act before answer after =
     ((answer, after) ≡ whole_effect act before)
@@ -79,20 +79,20 @@ abbrev pub edited_reply : Result (Unit {0}) Refusal → Reply
 edited_reply (Ok done) = reply.Rows row_reply.Done
 edited_reply (Err why) = reply.Refused why
 
--- a right step of an action whose rows lie in a loose piece or not: Moving, else a right outcome
+-- a right step of an action: Moving if its rows are in a loose piece, and otherwise a right outcome
 abbrev pub IsOwnedStep : Bool → Action → Store → Reply → Store → Type 0
 IsOwnedStep true act before answer after = (answer ≡ reply.Refused refusal.Moving) × (after ≡ before)
 IsOwnedStep false act before answer after =
     (rows : RowReply) × (book : Book)
     × IsWholeOutcome act before.book rows book × (answer ≡ reply_of rows) × (after ≡ record before { book = book })
 
--- a right step of what asks for an action, or for none and is refused
+-- a right step of an event on rows, which asks for an action, or asks for none and is refused
 abbrev pub IsAskedStep : Result Action Refusal → Store → Reply → Store → Type 0
 IsAskedStep (Ok act) before answer after =
     IsOwnedStep (is_loose (s_id_of act) before.regions) act before answer after
 IsAskedStep (Err why) before answer after = (answer ≡ reply.Refused why) × (after ≡ before)
 
--- Field where numbers are out of range, NoNumber where there is no subscriber, else the action
+-- Field if numbers are out of range, NoNumber if there is no such subscriber, and otherwise the action
 abbrev pub checked : Bool → Option Action → Result Action Refusal
 checked false wanted = Err refusal.Field
 checked true None = Err refusal.NoNumber
@@ -106,7 +106,7 @@ if_in_range act = checked (is_in_range act) (Some act)
 abbrev pub has_forwarding_key : ℕ → ℕ → Bool
 has_forwarding_key sf_type start_time = is_between 1 4 sf_type && is_start_time start_time
 
--- what an event on rows asks for; any other event asks for no action, and what stands for it here is of no matter
+-- what an event on rows asks for; other events ask for no action, and what this gives for them doesn't matter
 abbrev pub action_for : Event → Book → Result Action Refusal
 action_for (SubscriberData s_id) book = if_in_range (action.SubscriberData s_id)
 action_for (NewDestination s_id sf_type start_time end_time) book =
@@ -152,14 +152,14 @@ abbrev pub taken_reply : ℕ → ℕ → Result Side Refusal → Reply
 taken_reply n q (Ok side) = reply.Taken n q
 taken_reply n q (Err why) = reply.Refused why
 
--- a right step of a give: it moves the regions alone
+-- a right step of a give, which changes the regions alone
 abbrev pub IsGiveStep : ℕ → Side → ℕ → Store → Reply → Store → Type 0
 IsGiveStep part side at before answer after =
     (done : Result (ℕ × ℕ × ℕ) Refusal)
     × MayAnswer (give_answer part side at before.regions) done × (answer ≡ given_reply done)
     × (after ≡ record before { regions = after_give part side at done before.regions })
 
--- a right step of a take: it moves the regions alone
+-- a right step of a take, which changes the regions alone
 abbrev pub IsTakeStep : ℕ → ℕ → Store → Reply → Store → Type 0
 IsTakeStep piece part before answer after =
     (done : Result Side Refusal)
@@ -176,19 +176,19 @@ abbrev pub dissolved_reply : Result (ℕ × ℕ × ℕ) Refusal → Reply
 dissolved_reply (Ok part) = reply.Dissolved part.0 part.1 part.2
 dissolved_reply (Err why) = reply.Refused why
 
--- a right step of a divide: it moves the regions, and gives the new part a slot
+-- a right step of a divide, which changes the regions, and gives the new part a slot
 abbrev pub IsDivideStep : ℕ → ℕ → Store → Reply → Store → Type 0
 IsDivideStep part at before answer after =
     (done : Result (ℕ × ℕ × ℕ) Refusal)
     × MayAnswer (divide_answer part at before.regions) done × (answer ≡ divided_reply done) × IsDivided part at done before after
 
--- a right step of a dissolve: it moves the regions, takes back what the part has published, and frees its slot
+-- a right step of a dissolve, which changes the regions, takes back what the part has published, and frees its slot
 abbrev pub IsDissolveStep : ℕ → Store → Reply → Store → Type 0
 IsDissolveStep part before answer after =
     (done : Result (ℕ × ℕ × ℕ) Refusal)
     × MayAnswer (dissolve_answer part before.regions) done × (answer ≡ dissolved_reply done) × IsDissolved part done before after
 
--- from one store, an event may have this reply and lead to that store
+-- an event may have this reply in the first store, and lead to the second one
 abbrev pub IsStep : Event → Store → Reply → Store → Type 0
 IsStep (Post part limit) before answer after = IsPostStep (slots_of before part) part limit before answer after
 IsStep (Give part side at) before answer after = IsGiveStep part side at before answer after

@@ -9,7 +9,7 @@ use Rattle.hlr_owners.specs.declared.part_owner.RegionOwner.TheVariants.{Part}
 use Rattle.hlr_core.specs.Session.{IsJobDone, IsNumberless}
 use Rattle.hlr_core.specs.declared.event.Reply.{Reply}
 
--- jobs that give no number, the last one first, each with the reply to it, make one holding of another
+-- jobs that give no number, the last one first and each with the reply to it, make the second holding of the first
 abbrev pub AreDone : HoldingState → List (Job × Reply) → HoldingState → Type 0
 AreDone lent [] now = now ≡ lent
 AreDone lent (last ∷ earlier) now =
@@ -19,7 +19,7 @@ AreDone lent (last ∷ earlier) now =
 abbrev pub IsWorked : HoldingState → HoldingState → Type 0
 IsWorked lent now = (jobs : List (Job × Reply)) × AreDone lent jobs now
 
--- a part that was out is at home, with a holding that such jobs have made of the one that was lent
+-- a part that was lent is home again, with a holding that such jobs have made of the one that was lent
 pub record IsBack (part : ℕ) (before after : OwnersState) : Type 0 where
   pub lent : HoldingState
   pub home : HoldingState

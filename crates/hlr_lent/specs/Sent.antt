@@ -1,4 +1,4 @@
--- What a part that went home leaves: which holding it sent.
+-- What is left of a part that went home: it says which holding was sent.
 use Rattle.std.specs.Prelude.{List, [], ◌∷◌, Option, Some, None}
 use Rattle.rtrb.specs.Ring.{sent}
 use Rattle.holding.specs.Held.{HoldingState}
@@ -6,7 +6,7 @@ use Rattle.hlr_lent.specs.declared.lent_part.Sent.{Sent}
 use Rattle.hlr_lent.specs.declared.ring.Message.{Message}
 use Rattle.hlr_lent.specs.declared.ring.Message.TheVariants.{Lent, Home}
 
--- the holding that went home, where it was lent first and nothing else has gone through the ring
+-- the holding that went home, if it was lent first and nothing else has gone through the ring
 abbrev pub gone_home : List Message → Option HoldingState
 gone_home (Lent snapshot ∷ (Home holding ∷ [])) = Some holding.value
 gone_home _ = None

@@ -1,4 +1,4 @@
--- What the owner of an action's rows, and the regions, may answer.
+-- The replies that the owner of an action's rows, and the regions, may give.
 use Rattle.std.specs.Prelude.{◌≡◌, ℕ, Bool, true, false, List, Option, Some, None, Result, Ok, Err, if◌then◌else◌, ◌⊎◌}
 use Rattle.tatp_rows.specs.declared.refusal.Refusal.{Refusal}
 use Rattle.tatp_rows.specs.declared.refusal.Refusal.TheVariants as refusal
@@ -22,14 +22,15 @@ is_loose_place None = false
 abbrev pub is_loose : ℕ → List Region → Bool
 is_loose s_id regions = is_loose_place (place_of s_id regions)
 
--- what the owner of an action's rows may answer: a loose piece answers Moving, after Field, and else it is a right
--- outcome
+-- the reply that the owner of an action's rows may give: a loose piece gives Field or else Moving, and any other owner
+-- gives a right outcome
 abbrev pub IsAnswered : Bool → Action → Book → RowReply → Book → Type 0
 IsAnswered false act before answer after = IsOutcome act before answer after
 IsAnswered true act before answer after =
     (answer ≡ row_reply.Refused (if is_in_range act then refusal.Moving else refusal.Field)) × (after ≡ before)
 
--- what a give, a take, a divide or a dissolve may answer: what the regions say, or Memory where they refuse nothing
+-- the answer that a give, a take, a divide or a dissolve may have: that of the regions, or Memory if they refuse
+-- nothing
 abbrev pub MayAnswer : {A : Type 0} → Result A Refusal → Result A Refusal → Type 0
 MayAnswer (Ok done) answer = (answer ≡ Ok done) ⊎ (answer ≡ Err refusal.Memory)
 MayAnswer (Err why) answer = answer ≡ Err why

@@ -1,4 +1,4 @@
--- The desks of the parts, and the one of the slots that no part has: the words of the board as they have them.
+-- The desks of the parts, and the desk of the slots that no part has, and what they know of the words of the board.
 use Rattle.std.specs.Prelude.{◌≡◌, ℕ, ◌<◌, ◌/◌, List, ◌∷◌, sum_by, if◌then◌else◌, slice_index, pos}
 use Rattle.std.specs.List.{AllByRecursion, filter}
 use Rattle.atomic_table.specs.Seated.{TableId}
@@ -14,11 +14,11 @@ use Rattle.hlr_owners.specs.Words.{all_slots}
 abbrev pub desk_of : HoldingState → DeskState
 desk_of holding = holding.desk
 
--- a desk's number at a word of its own, and 0 at a word of another's
+-- a desk's number at a word of one of its slots, and 0 at any other word
 abbrev pub own_number : ℕ → DeskState → ℕ
 own_number w desk = if owned_at desk.view (w / SLOT_WORDS) then slice_index desk.view.numbers w else 0
 
--- the words of the board: each is the number of the desk whose own it is
+-- the words of the board, each of which is the number that the desk of its slot keeps
 abbrev pub words_of : List DeskState → List ℕ
 words_of desks = each_word (λ w. sum_by (own_number w) desks)
 
@@ -26,7 +26,7 @@ words_of desks = each_word (λ w. sum_by (own_number w) desks)
 abbrev pub slots_in : DeskState → List ℕ
 slots_in desk = filter (owned_at desk.view) all_slots
 
--- 1 where the slot is the desk's, else 0
+-- 1 if the slot is the desk's, and 0 otherwise
 abbrev pub owns_one : ℕ → DeskState → ℕ
 owns_one slot desk = if owned_at desk.view slot then 1 else 0
 
@@ -39,7 +39,7 @@ pub record IsOfBoard (board : TableId) (desk : DeskState) : Type 0 where
 abbrev pub HasOneSlot : DeskState → Type 0
 HasOneSlot desk = (slot : ℕ) × OwnsAlone desk.view slot
 
--- each slot is of one of the desks: each part has one slot, and each of the others has a net of 0 in each cell
+-- each slot has one of the desks; each part has one slot, and each other slot has a net of 0 in each cell
 pub record ShareSlots (spare : DeskState) (desks : List DeskState) : Type 0 where
   pub once : (slot : ℕ) → slot < SLOTS → sum_by (owns_one slot) (spare ∷ desks) ≡ 1
   pub alone : AllByRecursion HasOneSlot desks
@@ -50,11 +50,11 @@ pub record AreDesks (board : TableId) (spare : DeskState) (desks : List DeskStat
   pub of_board : AllByRecursion (IsOfBoard board) (spare ∷ desks)
   pub shares : ShareSlots spare desks
 
--- in each cell the plus-word of a slot is its minus-word
+-- the plus-word of a slot equals its minus-word in each cell
 abbrev pub IsLevel : List ℕ → ℕ → Type 0
 IsLevel words slot = (c : ℕ) → c < CELLS → slice_index words (plus_word slot c) ≡ slice_index words (minus_word slot c)
 
--- so it is in each slot
+-- this holds for each slot
 abbrev pub AreLevel : List ℕ → Type 0
 AreLevel words = (slot : ℕ) → slot < SLOTS → IsLevel words slot
 

@@ -1,4 +1,4 @@
--- Holdings and loose pieces that are brought home: whether they make a register, and which.
+-- Holdings and loose pieces that `gather` takes: whether they make a register, and which one.
 use Rattle.std.specs.Prelude.{◌≡◌, ℕ, ◌==◌, ◌||◌, nat_lt, not, List, ◌∷◌, ◌++◌, map, length, Option, Some, None, if◌then◌else◌}
 use Rattle.std.specs.List.{AllByRecursion, list_all}
 use Rattle.atomic_table.specs.Seated.{TableId}
@@ -20,11 +20,11 @@ use Rattle.hlr_owners.specs.Store.{Store}
 abbrev pub states_of : List HoldingState → List PieceState → List OwnerState
 states_of holdings pieces = map of_holding holdings ++ map of_piece pieces
 
--- the range of a holding, as a region in which the number counts for nothing
+-- the range of a holding, as a region whose number doesn't matter
 abbrev pub holding_range : HoldingState → Region
 holding_range holding = record { lo = holding.part.lo; hi = holding.part.hi; place = Part 0 }
 
--- the range of a piece, likewise
+-- the range of a piece, in the same way
 abbrev pub piece_range : PieceState → Region
 piece_range piece = record { lo = piece.part.lo; hi = piece.part.hi; place = Piece 0 }
 
@@ -37,7 +37,7 @@ pub record MayGather (board : TableId) (spare : DeskState) (holdings : List Hold
   pub same : AllByRecursion (λ desk. desk.board ≡ board) (spare ∷ map desk_of holdings)
   pub shares : ShareSlots spare (map desk_of holdings)
 
--- why they make no register, memory and numbers aside
+-- the reason why they make no register, apart from memory and numbers
 abbrev pub misfit : ℕ → List HoldingState → List PieceState → Option Refusal
 misfit width holdings pieces =
     if (length holdings == 0) || nat_lt MOST_PARTS (length holdings) then Some NoPart
@@ -46,7 +46,7 @@ misfit width holdings pieces =
     else if not (do_follow 1 (ranges_of holdings pieces)) then Some NotAdjacent
     else None
 
--- the store that they make: the rows in the order of the ranges, the parts and pieces numbered in that order
+-- the store that they make: the rows in the order of the ranges, with parts and pieces numbered in that order
 abbrev pub gathered : ℕ → DeskState → List HoldingState → List PieceState → Store
 gathered width spare holdings pieces = record {
   book = book_of (map (λ state. state.part) (in_order (λ state. state.part.lo) (states_of holdings pieces)));

@@ -9,7 +9,7 @@ use Rattle.view_board.specs.declared.rule.View.{View}
 use Rattle.view_delta.specs.Pending.{delta_at}
 use Rattle.holding.specs.Held.{HoldingState, PieceState, HasSmallNets, count_of}
 
--- an owner of rows: a part's holding, or a loose piece, of which nobody has published anything
+-- an owner of rows: a part's holding, or a loose piece, which has published nothing
 pub record OwnerState : Type 0 where
   pub part : PartState
   pub pending : List ℤ
@@ -19,7 +19,7 @@ pub record OwnerState : Type 0 where
 abbrev pub of_holding : HoldingState → OwnerState
 of_holding holding = record { part = holding.part; pending = holding.pending; view = holding.desk.view }
 
--- a loose piece as an owner, whose desk is nobody's
+-- a loose piece as an owner, with a desk that owns no slot
 abbrev pub of_piece : PieceState → OwnerState
 of_piece piece = record { part = piece.part; pending = piece.pending; view = nobody }
 
@@ -28,7 +28,7 @@ abbrev pub pending_in : List OwnerState → ℕ → ℤ
 pending_in [] c = pos 0
 pending_in (state ∷ states) c = delta_at state.pending c +ℤ pending_in states c
 
--- the local law: what is published of a cell and what is pending of it are the count over the owner's rows
+-- the local law: what is published and what is pending of each cell add up to the count over the owner's rows
 pub record IsLawful (state : OwnerState) : Type 0 where
   pub rules : IsPart state.part
   pub law : (c : ℕ) → c < CELLS → net_of state.view c +ℤ delta_at state.pending c ≡ pos (count_of state.part c)

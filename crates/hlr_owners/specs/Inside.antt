@@ -18,7 +18,7 @@ use Rattle.hlr_owners.specs.declared.part_owner.RegionOwner.{RegionOwner}
 abbrev pub AreSummable : (ℕ → ℤ) → Type 0
 AreSummable sum = (c : ℕ) → c < CELLS → (neg_ℤ (pos (2 ^ 60)) ≤ℤ sum c) × (sum c ≤ℤ pos (2 ^ 60))
 
--- each owner is at home
+-- each owner is home
 abbrev pub IsEachHome : List RegionOwner → Type 0
 IsEachHome owners = AllByRecursion (λ (owner : RegionOwner). is_home owner ≡ true) owners
 
@@ -37,8 +37,8 @@ IsHanded whole half before (Ok done) after = (whole ≡ Ok after.regions) × (af
 IsHanded whole half before (Err why) after =
     (why ≡ Memory) × (after ≡ record before { regions = after.regions }) × ((after.regions ≡ before.regions) ⊎ (after.regions ≡ half))
 
--- what a move leaves: who is at home, which holdings are out, the desk of the slots that no part has, and the width;
--- and of the store the regions alone move, whatever the holdings that are out have become
+-- what a move leaves: who is home, which holdings are lent, the desk of the slots that no part has, and the width; and
+-- of the store the regions alone move, no matter what the lent holdings have become
 pub record IsMovedAlone (before after : OwnersState) : Type 0 where
   pub homes : homes_in after.owners ≡ homes_in before.owners
   pub outs : outs_in after.owners ≡ outs_in before.owners

@@ -1,4 +1,4 @@
--- Owners, one beside each region, their rows as one book, and their desks.
+-- Owners, one for each region, with their rows as one book, and their desks.
 use Rattle.std.specs.Prelude.{◌≡◌, ℕ, Bool, true, false, List, [], ◌∷◌, map, ⊤, ◌-◌, ℤ, ◌++◌, Option, Some, None, drop, position, slice_get, slice_set, slice_index_or}
 use Rattle.std.specs.List.{AllZip, AllByRecursion}
 use Rattle.tatp_actions.specs.Book.{Book}
@@ -26,15 +26,15 @@ abbrev pub state_of : RegionOwner → OwnerState
 state_of (Part part_owner_state) = of_holding part_owner_state.holding
 state_of (Piece b) = of_piece b.value
 
--- those of all owners
+-- the same of all owners
 abbrev pub states_in : List RegionOwner → List OwnerState
 states_in owners = map state_of owners
 
--- the rows of all
+-- the rows of all owners as one book
 abbrev pub book_in : List RegionOwner → Book
 book_in owners = book_of (map (λ (state : OwnerState). state.part) (states_in owners))
 
--- something of a part, and nothing of a piece
+-- what a function makes of a part's holding, and nothing for a piece
 abbrev pub of_part : {X : Type 0} → (PartOwnerState → X) → RegionOwner → List X
 of_part f (Part part_owner_state) = f part_owner_state ∷ []
 of_part f (Piece b) = []
@@ -52,43 +52,43 @@ desks_in owners = of_parts (λ part_owner_state. part_owner_state.holding.desk) 
 abbrev pub holding_at : RegionOwner → List HoldingState
 holding_at owner = of_part (λ part_owner_state. part_owner_state.holding) owner
 
--- the holdings of the parts, by their numbers; of one that is lent, as it was then
+-- the holdings of the parts, by their numbers; a lent one is as it was when it was lent
 abbrev pub part_holdings : List RegionOwner → List HoldingState
 part_holdings owners = of_parts (λ part_owner_state. part_owner_state.holding) owners
 
--- whether the parts are at home, by their numbers
+-- whether the parts are home, by their numbers
 abbrev pub homes_in : List RegionOwner → List Bool
 homes_in owners = of_parts (λ part_owner_state. part_owner_state.home) owners
 
--- what is not posted yet of a cell: what is pending of it in all of them
+-- what is unposted of a cell: what is pending of it in all of them
 abbrev pub unposted : List RegionOwner → ℕ → ℤ
 unposted owners c = pending_in (states_in owners) c
 
--- an owner is at home, as a loose piece always is
+-- an owner is home, as a loose piece always is
 abbrev pub is_home : RegionOwner → Bool
 is_home (Part part_owner_state) = part_owner_state.home
 is_home (Piece b) = true
 
--- a part stands beside a part's region, a piece beside a piece's
+-- the owner of a part's region is a part, and that of a piece's region is a piece
 abbrev pub IsKind : Place → RegionOwner → Type 0
 IsKind (place.Part p) (Part part_owner_state) = ⊤
 IsKind (place.Part p) (Piece b) = ⊥
 IsKind (place.Piece n) (Part part_owner_state) = ⊥
 IsKind (place.Piece n) (Piece b) = ⊤
 
--- an owner beside a region: of its kind, and with its rows
+-- the owner of a region: it is of the region's kind, and has its rows
 pub record IsRegionOwner (width : ℕ) (region : Region) (owner : RegionOwner) : Type 0 where
   pub kind : IsKind region.place owner
   pub state : IsOwnerState width region (state_of owner)
 
--- the owners beside their regions, the desk of the slots that no part has, and the width of the zones
+-- the owners in the order of their regions, the desk of the slots that no part has, and the zone width
 pub record OwnersState : Type 0 where
   pub regions : List Region
   pub owners : List RegionOwner
   pub spare : DeskState
   pub width : ℕ
 
--- the store that they are seen as; of a part that is lent, as it was then
+-- the store as which they are seen; a lent part is as it was when it was lent
 abbrev pub store_in : OwnersState → Store
 store_in h = record {
   book = book_in h.owners;
@@ -105,29 +105,29 @@ pub record AreOwners (h : OwnersState) : Type 0 where
   pub each : AllZip (IsRegionOwner h.width) h.regions h.owners
   pub zones : IsWidth h.width
 
--- a part is at home, if there is such a part
+-- a part is home, if there is such a part
 abbrev pub IsPartHome : ℕ → OwnersState → Type 0
 IsPartHome part h = slice_index_or (homes_in h.owners) part true ≡ true
 
--- whoever has a place is at home, as a loose piece always is
+-- the owner that has a place is home, as a loose piece always is
 abbrev pub IsPlaceHome : Option Place → OwnersState → Type 0
 IsPlaceHome (Some (place.Part p)) h = IsPartHome p h
 IsPlaceHome (Some (place.Piece n)) h = ⊤
 IsPlaceHome None h = ⊤
 
--- whoever has a subscriber is at home
+-- the owner that has a subscriber is home
 abbrev pub IsHomeFor : ℕ → OwnersState → Type 0
 IsHomeFor s_id h = IsPlaceHome (place_of s_id h.regions) h
 
--- all parts from one on are at home
+-- all parts from one on are home
 abbrev pub IsHomeFrom : ℕ → OwnersState → Type 0
 IsHomeFrom part h = AllByRecursion (λ (home : Bool). home ≡ true) (drop part (homes_in h.owners))
 
--- all parts are at home
+-- all parts are home
 abbrev pub AllHome : List RegionOwner → Type 0
 AllHome owners = AllByRecursion (λ (home : Bool). home ≡ true) (homes_in owners)
 
--- where the part stands that takes a piece from an owner, once that owner is gone
+-- the place of the part that takes a piece, once the piece's own place is gone
 abbrev pub taker : Side → ℕ → ℕ
 taker Low i = i
 taker High i = i - 1
@@ -140,15 +140,15 @@ pub record IsSameOwner (before after : HoldingState) : Type 0 where
   pub board : after.desk.board ≡ before.desk.board
   pub owned : after.desk.view.owned ≡ before.desk.view.owned
 
--- a part's holding goes out, which was at home; it is known as it was then, and nothing else changes
+-- a part's holding that was home is lent; the owners keep how it was then, and nothing else changes
 pub record IsLent (part : ℕ) (before : OwnersState) (holding : HoldingState) (after : OwnersState) : Type 0 where
   pub index : ℕ
   pub region : position (is_part part) before.regions ≡ Some index
   pub owner : slice_get before.owners index ≡ Some (Part (record { holding = holding; home = true }))
   pub away : after ≡ record before { owners = slice_set before.owners index (Part (record { holding = holding; home = false })) }
 
--- an owner that another one may stand for: that of a part whose holding is the same owner, and keeps the rules if the
--- first one does; or the same piece
+-- an owner, and another one that may replace it: for a part, one whose holding is the same owner and keeps the rules if
+-- the first one does; for a piece, only the same piece
 abbrev pub IsLaterOwner : RegionOwner → RegionOwner → Type 0
 IsLaterOwner (Part l) (Part m) =
     IsSameOwner l.holding m.holding × (IsLawful (of_holding l.holding) → IsLawful (of_holding m.holding)) × (IsWide l.holding.desk.view → IsWide m.holding.desk.view)
@@ -156,7 +156,7 @@ IsLaterOwner (Part l) (Piece b) = ⊥
 IsLaterOwner (Piece a) (Part m) = ⊥
 IsLaterOwner (Piece a) (Piece b) = b ≡ a
 
--- a holding that may come home as this owner's: its part is out, and it is the same owner
+-- a holding may come home as this owner's: its part is lent, and it is the same owner
 abbrev pub IsBackFor : Option RegionOwner → HoldingState → Type 0
 IsBackFor (Some (Part l)) k = (l.home ≡ false) × IsSameOwner l.holding k
 IsBackFor (Some (Piece b)) k = ⊥

@@ -1,9 +1,9 @@
--- A part's holding at home, or as it was lent.
+-- A part's holding that is home, or as it was lent.
 use Rattle.std.specs.Prelude.{Bool, true, false, Option, Some, None, Box}
 use Rattle.std.specs.declared.alloc.Global.{Global}
 use Rattle.holding.specs.Held.{HoldingState}
 
--- the holding of a part, and whether it is at home; one that is lent is told as it was then
+-- the holding of a part, and whether it is home; one that is lent is told as it was then
 pub record PartOwnerState : Type 0 where
   pub holding : HoldingState
   pub home : Bool

@@ -13,8 +13,8 @@ abbrev pub least_slot : List ℕ → ℕ
 least_slot [] = SLOTS
 least_slot (slot ∷ slots) = min slot (least_slot slots)
 
--- the words of a slot are raised by the gaps of cells, one after another, up to one that would wear; the answer is how
--- many were, and the words then
+-- the words of a slot are raised by the gaps of cells, one after another, up to one that would pass its limit; this
+-- gives how many were raised, and the words then
 abbrev pub raise_cells : (ℕ → ℤ) → ℕ → List ℕ → ℕ → List ℕ → Result ℕ Refusal × List ℕ
 raise_cells gaps slot [] done words = (Ok done, words)
 raise_cells gaps slot (c ∷ cells) done words =

@@ -8,8 +8,8 @@ use Rattle.hlr_owners.specs.Store.{Store}
 abbrev pub IsSpare : Store → ℕ → Type 0
 IsSpare store slot = AllByRecursion (λ slots. list_any (λ own. own == slot) slots ≡ false) store.slots
 
--- the words of slots that no part has as they are, each other word at least as it had been seen, and none past the
--- limit
+-- the words as a look may find them: those of slots that no part has are exact, each other one is at least what had
+-- been seen of it, and none passes the limit
 pub record IsSightOf (store : Store) (words : List ℕ) : Type 0 where
   pub wide : length words ≡ WORDS
   pub own : (w : ℕ) → w < WORDS → IsSpare store (w / SLOT_WORDS) → slice_index words w ≡ slice_index store.words w

@@ -1,5 +1,5 @@
--- The store that a register is seen as: its book, the regions, the words of the board, what it has seen of them, the
--- slots of each part, and the width of the zones.
+-- The store as which a register is seen: its book, the regions, the words of the board, what it has seen of them, the
+-- slots of each part, and the zone width.
 use Rattle.std.specs.Prelude.{◌≡◌, ℕ, ◌-◌, true, List, [], ◌∷◌, map, length, Option, Some, None, ℤ, pos, ◌-ℤ◌, slice_get}
 use Rattle.std.specs.List.{find, range_with_len}
 use Rattle.tatp_actions.specs.Book.{Book, empty_book, rows_between}
@@ -20,8 +20,8 @@ pub record Store : Type 0 where
   pub slots : List (List ℕ)
   pub width : ℕ
 
--- the store at opening: no row, parts alone with the zones shared out among them, all words 0, and part p has slot p
--- alone
+-- the store at opening: there is no row and no piece, the parts share the zones, all words are 0, and part p has only
+-- slot p
 abbrev pub opening : ℕ → ℕ → Store
 opening parts width = record {
   book = empty_book;
@@ -32,15 +32,15 @@ opening parts width = record {
   width = width;
 }
 
--- the same over words that are there already
+-- the same over words that exist already
 abbrev pub opening_from : ℕ → ℕ → List ℕ → Store
 opening_from parts width words = record (opening parts width) { words = words; sight = words }
 
--- a cell as published: the sum of the nets of all slots
+-- what is published of a cell: the sum of the nets of all slots
 abbrev pub published : Store → ℕ → ℤ
 published store c = net store.words all_slots c
 
--- what is not published of a cell: its count over the rows now, less what is published
+-- what is unposted of a cell: its count over the rows now, less what is published
 abbrev pub unpublished : Store → ℕ → ℤ
 unpublished store c = pos (cell store.width c store.book) -ℤ published store c
 

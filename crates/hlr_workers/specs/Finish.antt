@@ -11,7 +11,7 @@ use Rattle.hlr_workers.specs.declared.message.Message.{Message}
 use Rattle.hlr_workers.specs.declared.message.Numbered.{Numbered}
 use Rattle.hlr_workers.specs.declared.work.TheConstants.{MOST_PENDING}
 
--- of messages that were received, all jobs are done
+-- a holding has done all jobs of the messages that were received, with these replies
 abbrev pub HasDone : List Message → List (ℕ × Reply) → HoldingState → Type 0
 HasDone got answers holding = IsStarted got × IsSession (lent_of got) (jobs_of got) answers holding
 
@@ -19,7 +19,7 @@ HasDone got answers holding = IsStarted got × IsSession (lent_of got) (jobs_of 
 abbrev pub IsAtWork : Log → List (ℕ × Reply) → HoldingState → Type 0
 IsAtWork v answers holding = (v ≡ log false true [] v.got) × HasDone v.got answers holding
 
--- jobs were done, whatever was done before them
+-- some more jobs were done, no matter which were done before them
 abbrev pub IsSessionMore : List (ℕ × Job) → List (ℕ × Reply) → HoldingState → List (ℕ × Reply) → HoldingState → Type 0
 IsSessionMore more answers before answers' after =
     (lent : HoldingState) (jobs : List (ℕ × Job)) → IsSession lent jobs answers before → IsSession lent (jobs ++ more) answers' after
@@ -33,13 +33,13 @@ pub record Sent : Type 0 where
 abbrev pub sent_with : Log → ArrayVec Numbered → Sent
 sent_with v held = record { lent = lent_of v.sent; jobs = jobs_of v.sent ++ jobs_in held }
 
--- who pushes may send what is held
+-- the router may send the jobs that are held
 pub record MaySend (v : Log) (held : ArrayVec Numbered) : Type 0 where
   pub log : v ≡ log true false v.sent []
   pub started : IsStarted v.sent
   pub within : AreWithin (lent_of v.sent) (jobs_in held)
   pub room : length (jobs_of v.sent ++ jobs_in held) ≤ MOST_PENDING
 
--- a message comes to who has done all before it
+-- a message may be received by a holding that has done all jobs before it
 abbrev pub MayDo : Message → List (ℕ × Reply) → HoldingState → Type 0
 MayDo message answers holding = (got : List Message) × HasDone got answers holding × IsWellSent (got ++ message ∷ [])

@@ -58,7 +58,7 @@ IsHomeAgain part before (Some answers) after =
       jobs = slice_set before.jobs part [];
     })
 
--- none of these parts is out
+-- none of these parts is lent
 abbrev pub NoneOutOf : Parts → WorkersState → Type 0
 NoneOutOf parts workers = (q : ℕ) → parts.first ≤ q → q < parts.end → slice_index_or (outs_in workers.register.owners) q None ≡ None
 
@@ -110,7 +110,7 @@ IsBehind Same q = ⊥
 IsBehind (New part) q = part ≤ q
 IsBehind (Gone part) q = part ≤ q
 
--- workers after it: a new part is at home, as the one that is gone was, and all the parts behind it were
+-- workers after it: a new part is home, as the one that is gone was, and all the parts behind it were
 pub record AreWorkersChanged (told : PartChange) (before after : WorkersState) : Type 0 where
   pub outs : outs_in after.register.owners ≡ with_part_change told None (outs_in before.register.owners)
   pub jobs : after.jobs ≡ with_part_change told [] before.jobs

@@ -10,7 +10,8 @@ use Rattle.hlr_workers.specs.Finish.{Sent}
 use Rattle.hlr_workers.specs.Session.{AreNumberless}
 use Rattle.hlr_workers.specs.Standing.{AreNumbered, Engaged, numbered_in}
 
--- a register, with the parts that are out as they were lent, and the jobs that are out, by the numbers of their parts
+-- a register, in which a lent part is as it was when it was lent, and the jobs that were sent to each lent part, by the
+-- parts' numbers
 pub record WorkersState : Type 0 where
   pub register : OwnersState
   pub jobs : List (List (ℕ × Job))
@@ -20,7 +21,8 @@ abbrev pub jobs_at : Option Sent → List (ℕ × Job)
 jobs_at None = []
 jobs_at (Some sent) = sent.jobs
 
--- a part that is out has a worker, who was sent its holding, and jobs that give no number; one at home has none
+-- a lent part has a worker, to whom its holding and jobs that give no number were sent, and a part that is home has
+-- none
 abbrev pub HasWorker : Option HoldingState → Option Sent → Type 0
 HasWorker None None = ⊤
 HasWorker None (Some sent) = ⊥
@@ -31,8 +33,8 @@ HasWorker (Some lent) (Some sent) = (sent.lent ≡ lent) × AreNumberless sent.j
 abbrev pub AllNumberless : List (List (ℕ × Job)) → Type 0
 AllNumberless jobs = AllByRecursion AreNumberless jobs
 
--- the rules of numbers: a place for each event, with its number; no number out twice, and none of an event that wasn't
--- taken; no more jobs of a part than events
+-- the rules of the numbers: each event has a place, with its number; no two jobs have the same number, and none has
+-- that of an event that wasn't taken; and no part has more jobs than there are events
 pub record InOrder (jobs : List (List (ℕ × Job))) (replies : List (ℕ × Reply)) : Type 0 where
   pub places : AreNumbered replies
   pub once : (k : ℕ) → numbered_in k jobs ≤ 1
@@ -43,12 +45,12 @@ pub record InOrder (jobs : List (List (ℕ × Job))) (replies : List (ℕ × Rep
 abbrev pub engaged : WorkersState → List (ℕ × Reply) → Engaged
 engaged workers replies = record { register = workers.register; jobs = workers.jobs; replies = replies }
 
--- the rules that workers and the replies kept keep together
+-- the rules that the workers and the kept replies keep together
 pub record IsKept (workers : WorkersState) (replies : List (ℕ × Reply)) : Type 0 where
   pub paired : length workers.jobs ≡ length (outs_in workers.register.owners)
   pub none : AllNumberless workers.jobs
   pub order : InOrder workers.jobs replies
 
--- nobody is out
+-- no part is lent
 abbrev pub NoneOut : WorkersState → Type 0
 NoneOut workers = AllByRecursion (λ (out : Option HoldingState). out ≡ None) (outs_in workers.register.owners)

@@ -1,6 +1,5 @@
--- What goes through a worker's queue: the holding as it is lent, jobs of it, and that its thread is to end. One pass at
--- most may push, and knows what was sent; one at most may pop, and knows what was received; the rest waits in the
--- queue.
+-- What goes through a worker's queue: the holding as it is lent, its jobs, and the order to end. At most one pass may
+-- push, and knows what was sent; at most one may pop, and knows what was received; the rest waits in the queue.
 use Rattle.std.specs.Prelude.{◌≡◌, ℕ, ◌≤◌, Bool, true, List, [], ◌∷◌, ◌++◌, length, map, ⊤}
 use Rattle.std.specs.List.{AllByRecursion}
 use mathlib.Core.Option.{some}
@@ -23,7 +22,7 @@ use Rattle.hlr_workers.specs.declared.work.TheConstants.{MOST_PENDING}
 abbrev pub log : Bool → Bool → List Message → List Message → Log
 log pushes pops sent got = record { pushes = pushes; pops = pops; sent = sent; got = got }
 
--- no holding: it stands for one where none was sent
+-- a holding without meaning, for a queue to which none was sent
 abbrev pub nothing : HoldingState
 nothing = record {
   part = record { book = empty_book; asked = 0; lo = 0; hi = 0; width = 0; steps = 0; heights = zero_heights };
@@ -58,7 +57,7 @@ IsStarted (Begin lent ∷ messages) = AreJobs lent.holding.value messages
 IsStarted (Do batch ∷ messages) = ⊥
 IsStarted (Stop ∷ messages) = ⊥
 
--- what may be sent so far: nothing, or a holding and jobs of it
+-- what may have been sent so far: nothing, or a holding and jobs of it
 abbrev pub IsInShape : List Message → Type 0
 IsInShape [] = ⊤
 IsInShape (message ∷ messages) = IsStarted (message ∷ messages)
@@ -77,11 +76,12 @@ jobs_of (Begin lent ∷ messages) = jobs_of messages
 jobs_of (Do batch ∷ messages) = jobs_in batch ++ jobs_of messages
 jobs_of (Stop ∷ messages) = jobs_of messages
 
--- that, with no more jobs than there is room for replies
+-- such messages, with no more jobs than there is room for replies
 abbrev pub IsWellSent : List Message → Type 0
 IsWellSent messages = IsInShape messages × (length (jobs_of messages) ≤ MOST_PENDING)
 
--- what a pass knows is so: who may push knows all that was sent, who may pop all that was received
+-- the knowledge of a pass is right: one that may push knows all that was sent, and one that may pop knows all that was
+-- received
 abbrev pub IsKnown : ℕ → ℕ → List Message → List Message → ℕ → Log → Type 0
 IsKnown writer reader sent got pass v =
     (v.pushes ≡ true → (pass ≡ writer) × (v.sent ≡ sent)) × (v.pops ≡ true → (pass ≡ reader) × (v.got ≡ got))

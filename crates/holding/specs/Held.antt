@@ -1,4 +1,4 @@
--- The local law: what an owner has published of a cell and what it has not posted yet are the count over its own rows.
+-- The local law: what an owner has published of a cell and what is pending of it are the count over its own rows.
 use Rattle.std.specs.Prelude.{◌≡◌, ℕ, ◌<◌, ◌^◌, List, ℤ, pos, neg_ℤ, ◌+ℤ◌, ◌≤ℤ◌}
 use Rattle.tatp_actions.specs.Cell.{cell}
 use Rattle.tatp_actions.specs.Part.{PartState, IsPart}

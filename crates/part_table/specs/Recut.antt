@@ -1,4 +1,4 @@
--- A re-cut: which bounds move so that the parts have others, in which order, and what the moves do.
+-- A recut: which bounds move so that the parts have others, in which order, and what the moves do.
 use Rattle.std.specs.Prelude.{ℕ, ◌+◌, ◌-◌, ◌==◌, ◌&&◌, ◌++◌, not, nat_lt, List, [], ◌∷◌, length, map, if◌then◌else◌, Result, Ok, Err}
 use Rattle.tatp_rows.specs.declared.refusal.Refusal.{Refusal}
 use Rattle.tatp_rows.specs.declared.refusal.Refusal.TheVariants.{Field, Moving}
@@ -30,7 +30,7 @@ falling_moves i (from ∷ froms) [] = []
 falling_moves i (from ∷ froms) (to ∷ tos) =
     (if nat_lt to from then record { bound = i; from = from; to = to } ∷ [] else []) ++ falling_moves (i + 1) froms tos
 
--- the answer of a re-cut: the moves of the bounds that differ, first those that rise
+-- the answer of a recut: the moves of the bounds that differ, first those that rise
 abbrev pub recut_answer : List Region → List ℕ → Result (List CutMove) Refusal
 recut_answer regions bounds =
     if not ((length bounds + 1 == length (parts_of regions)) && are_rising 1 bounds) then Err Field else (

@@ -26,7 +26,7 @@ pieces_of (region ∷ regions) = piece_number region.place ++ pieces_of regions
 abbrev pub IsPieceNumber : ℕ → Type 0
 IsPieceNumber n = (1 ≤ n) × (n ≤ MOST_PIECES)
 
--- the regions of all s_ids: they follow one another, the parts are numbered in order, and no piece number stands twice
+-- the regions of all s_ids: they follow one another, the parts are numbered in order, and no piece number comes twice
 pub record AreRegions (regions : List Region) : Type 0 where
   pub consecutive : IsConsecutive 1 regions
   pub in_order : parts_of regions ≡ range_with_len 0 (length (parts_of regions))

@@ -66,7 +66,7 @@ abbrev pub without_forwarding : Book → ℕ → ℕ → ℕ → Book
 without_forwarding book s_id sf_type start_time =
     record book { forwardings = without_row forwarding_key (key_of s_id sf_type start_time) book.forwardings }
 
--- the rules of a book, but for the rule that no number stands twice, which the register alone can keep
+-- the rules of a book, but for the rule that no number comes twice, which the register alone can keep
 pub record IsBook (book : Book) : Type 0 where
   pub subscribers_ordered : IsOrderedBy subscriber_key book.subscribers
   pub access_ordered : IsOrderedBy access_key book.access

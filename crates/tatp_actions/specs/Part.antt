@@ -19,7 +19,7 @@ pub record PartState : Type 0 where
 abbrev pub IsRange : ℕ → ℕ → Type 0
 IsRange lo hi = (1 ≤ lo) × (lo < hi) × (hi ≤ LAST_SUBSCRIBER + 1)
 
--- the width of the zones is in range
+-- the zone width is in range
 abbrev pub IsWidth : ℕ → Type 0
 IsWidth width = (1 ≤ width) × (width ≤ GREATEST_WIDTH)
 

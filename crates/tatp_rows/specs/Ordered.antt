@@ -2,7 +2,7 @@
 use Rattle.std.specs.Prelude.{ℕ, suc, ◌<◌, ◌==◌, nat_lt, List, [], ◌∷◌, Option, Some, None, if◌then◌else◌, ⊤}
 use Rattle.std.specs.List.{AllByRecursion}
 
--- the keys rise strictly, so no key stands twice
+-- the keys rise strictly, so no key comes twice
 abbrev pub IsOrderedBy : {X : Type 0} → (X → ℕ) → List X → Type 0
 IsOrderedBy key [] = ⊤
 IsOrderedBy key (x ∷ xs) = AllByRecursion (λ y. key x < key y) xs × IsOrderedBy key xs

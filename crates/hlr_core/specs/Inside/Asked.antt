@@ -28,7 +28,7 @@ ChangesRows change = ⊤
 abbrev pub IsRowStep : Bool → Option Action → Store → Reply → Store → Type 0
 IsRowStep fits wanted before answer after = IsAskedStep (checked fits wanted) before answer after
 
--- the same, whatever jobs have done to the holdings that are out
+-- the same, regardless of what jobs have done to the lent holdings
 abbrev pub IsRowStepWhileOut : Bool → Option Action → OwnersState → Reply → OwnersState → Type 0
 IsRowStepWhileOut fits wanted before answer after =
     (holdings : List HoldingState) → AreLater before.owners (with_outs before.owners holdings)

@@ -1,4 +1,4 @@
--- Pairs of numbers and subscribers that are put in one after another, in whatever order.
+-- Pairs of numbers and subscribers that are put in one after another, in any order.
 use Rattle.std.specs.Prelude.{◌≡◌, ℕ, ◌+◌, ◌≤◌, ◌==◌, List, [], sum_by, if◌then◌else◌}
 use Rattle.tatp_rows.specs.Rows.{SubscriberRow}
 use Rattle.number_index.specs.Pairs.{ArePairs}
@@ -15,7 +15,7 @@ AreNoted rows before after = (f : ℕ × ℕ → ℕ) → sum_by f after ≡ sum
 abbrev pub bears : ℕ → ℕ × ℕ → ℕ
 bears n pair = if pair.0 == n then 1 else 0
 
--- a number stands twice in some pairs and rows
+-- a number comes twice in some pairs and rows
 abbrev pub HasTwin : List SubscriberRow → List (ℕ × ℕ) → Type 0
 HasTwin rows pairs = (n : ℕ) × (2 ≤ sum_by (bears n) pairs + sum_by (λ row. bears n (number_pair row)) rows)
 
