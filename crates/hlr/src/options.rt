@@ -14,7 +14,8 @@ use tatp_rows::GREATEST_WIDTH;
 const VERSION: &str = "0.3.0";
 
 /// What the program is, in the first line of `--help`.
-const ABOUT: &str = "A home location register (HLR). It reads commands as CSV, and writes a reply to each one.";
+const ABOUT: &str =
+    "A home location register (HLR). It reads commands as CSV, and writes a reply to each one.";
 
 /// What the program reads and writes, with two examples: the text of `--help` behind the options.
 const FORMATS: &str = "\
