@@ -25,3 +25,4 @@ pub mod CutLemmas
 pub mod CutTablesLemmas
 pub mod CrossingLemmas
 pub mod ManyLemmas
+pub mod ListedLemmas

@@ -8,6 +8,7 @@ pub mod Edit
 pub mod Heights
 pub mod Inside
 pub mod Joined
+pub mod Listed
 pub mod Part
 pub mod Recount
 pub mod Tables

@@ -16,6 +16,7 @@ mod destinations;
 pub mod edit;
 mod keyed;
 mod lending;
+mod listed;
 mod many;
 mod part;
 #[cfg(test)]
@@ -37,6 +38,7 @@ pub use action::{Action, RowReply};
 pub use cells::{CELLS, Cells, FIRST_AREA, FIRST_ZONE};
 pub use change::Change;
 pub use edit::Edit;
+pub use listed::{FromRow, KeyFields, TableRow};
 pub use part::Part;
 pub use rows::Rows;
 pub use trees::Trees;

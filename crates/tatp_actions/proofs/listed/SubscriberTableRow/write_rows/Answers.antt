@@ -1,0 +1,21 @@
+use Rattle.tatp_actions.proofs.Common.{arith, tables_of}
+use Rattle.tatp_actions.specs.Listed.{AreListed, subscriber_fields}
+use Rattle.tatp_actions.proofs.ListedLemmas.{subscribers_listed, listed_small, table_written}
+use Rattle.tatp_actions.proofs.listed.SubscriberTableRow.write_rows.Goals.{After-part}
+use Rattle.tatp_actions.proofs.listed.SubscriberTableRow.write_rows.Goals as goal
+
+-- the pairs of the tree
+listed : (g : _) (c : After-part g) → AreListed subscriber_fields c.part.inside.rows.subscribers.rows
+listed g c = subscribers_listed (tables_of c.part.inside.rows) c.part.invariant.0.rows.rules c.part.invariant.1
+
+pub write_from-requires : goal.write_from-requires
+write_from-requires g c = (
+  omega arith,
+  (omega arith, (c.requires, ((listed g (goal.at.write_from-requires g c).After-part).ordered, listed_small subscriber_fields c.part.inside.rows.subscribers.rows (listed g (goal.at.write_from-requires g c).After-part)))),
+)
+
+pub returns : goal.returns
+returns g c =
+    rw (← c.part.view_is)
+    (table_written subscriber_fields g.T.FromRow.of_row c.args.from.now c.packed.result c.part.inside.rows.subscribers.rows c.args.place c.args.rows.now c.write_from.result c.write_from.new.rows
+    (listed g (goal.at.returns g c).After-part) c.packed.ensures c.write_from.ensures)
