@@ -7,6 +7,7 @@
 mod holding;
 mod job;
 mod lending;
+mod listed;
 mod many;
 mod moving;
 mod parting;
