@@ -27,3 +27,4 @@ pub mod SumLemmas
 pub mod TakeLemmas
 pub mod WhileOutLemmas
 pub mod ZipLemmas
+pub mod ListedLemmas

@@ -9,6 +9,7 @@ mod counts;
 mod homes;
 mod lending;
 mod lent;
+mod listed;
 mod listing;
 mod many;
 mod moving;
