@@ -12,6 +12,7 @@ mod listing;
 mod many;
 mod numbers;
 mod order;
+mod pages;
 mod register;
 mod route;
 mod task;
@@ -32,6 +33,8 @@ pub use hlr_owners::{Frame, Scattered};
 pub use holding::{Holding, Job, Piece};
 pub use number_index::{NumberIndex, Page};
 pub use part_table::{Bounds, Place, Region, Regions, Side};
-pub use tatp_actions::{Action, CELLS, Cells, FIRST_AREA, FIRST_ZONE, RowReply};
+pub use tatp_actions::{
+    Action, CELLS, Cells, FIRST_AREA, FIRST_ZONE, FromRow, KeyFields, RowReply, TableRow,
+};
 pub use tatp_rows::{Access, Back, Facility, Forwarding, Letters, Number, Refusal, Subscriber};
 pub use view_board::{Board, Desk, LIMIT, Sight, WORDS};
