@@ -106,6 +106,7 @@ enum class [[nodiscard]] code : std::uint8_t {
 using subscriber = hlr_subscriber;
 using access = hlr_access;
 using facility = hlr_facility;
+using forwarding_row = hlr_forwarding_row;
 using access_asked = hlr_access_asked;
 using destination_asked = hlr_destination_asked;
 using numbers = hlr_numbers;
@@ -263,6 +264,23 @@ public:
         return code{hlr_next_subscriber(&handle_, from, &row)};
     }
 
+    /* Calls that list the rows of a table from a key on: they write at most room rows, and store how many in found. */
+    code next_subscribers(std::uint64_t s_id, subscriber *rows, std::size_t room, std::uint64_t &found) noexcept {
+        return code{hlr_next_subscribers(&handle_, s_id, rows, room, &found)};
+    }
+    code next_accesses(std::uint64_t s_id, std::uint64_t ai_type, access *rows, std::size_t room,
+                       std::uint64_t &found) noexcept {
+        return code{hlr_next_accesses(&handle_, s_id, ai_type, rows, room, &found)};
+    }
+    code next_facilities(std::uint64_t s_id, std::uint64_t sf_type, facility *rows, std::size_t room,
+                         std::uint64_t &found) noexcept {
+        return code{hlr_next_facilities(&handle_, s_id, sf_type, rows, room, &found)};
+    }
+    code next_forwardings(std::uint64_t s_id, std::uint64_t sf_type, std::uint64_t start_time, forwarding_row *rows,
+                          std::size_t room, std::uint64_t &found) noexcept {
+        return code{hlr_next_forwardings(&handle_, s_id, sf_type, start_time, rows, room, &found)};
+    }
+
     /* Calls that read many rows: they use the first count elements of each array. */
     code subscriber_data_many(const std::uint64_t *s_ids, subscriber *rows, code *codes, std::size_t count) noexcept {
         return code{hlr_subscriber_data_many(&handle_, s_ids, count, rows, count, detail::bytes(codes), count)};
@@ -318,6 +336,7 @@ public:
     }
     code dissolve(std::uint64_t part, region &front) noexcept { return code{hlr_dissolve(&handle_, part, &front)}; }
     code regions(region_list &all) noexcept { return code{hlr_regions(&handle_, &all)}; }
+    code width(std::uint64_t &zone_width) noexcept { return code{hlr_width(&handle_, &zone_width)}; }
     code propose(bounds &proposed) noexcept { return code{hlr_propose(&handle_, &proposed)}; }
     code recut(const bounds &wanted, std::uint64_t &moved) noexcept { return code{hlr_recut(&handle_, &wanted, &moved)}; }
 

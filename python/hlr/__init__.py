@@ -30,13 +30,13 @@ from .records import load, save
 from .refusals import (Away, Code, Elsewhere, Exists, Field, ManyParts, ManyPieces, Memory, Moving, NoAccess,
                        NoDestination, NoFacility, NoForwarding, NoNumber, NoPart, NoPiece, NoSubscriber, NotAdjacent,
                        NotOpen, NumberTaken, OutOfRange, Refused, StillOpen, Worn)
-from .register import CELLS, Access, Cell, Facility, Kind, Part, Region, Register, Side, Subscriber
+from .register import CELLS, Access, Cell, Facility, Forwarding, Kind, Part, Region, Register, Side, Subscriber
 
 __version__ = "0.3.0"
 
 __all__ = [
-    "CELLS", "Access", "Away", "Cell", "Code", "Elsewhere", "Exists", "Facility", "Field", "Kind", "ManyParts",
-    "ManyPieces", "Memory", "Moving", "NoAccess", "NoDestination", "NoFacility", "NoForwarding", "NoNumber", "NoPart",
-    "NoPiece", "NoSubscriber", "NotAdjacent", "NotOpen", "NumberTaken", "OutOfRange", "Part", "Refused", "Region",
-    "Register", "Side", "StillOpen", "Subscriber", "Worn", "load", "save",
+    "CELLS", "Access", "Away", "Cell", "Code", "Elsewhere", "Exists", "Facility", "Field", "Forwarding", "Kind",
+    "ManyParts", "ManyPieces", "Memory", "Moving", "NoAccess", "NoDestination", "NoFacility", "NoForwarding",
+    "NoNumber", "NoPart", "NoPiece", "NoSubscriber", "NotAdjacent", "NotOpen", "NumberTaken", "OutOfRange", "Part",
+    "Refused", "Region", "Register", "Side", "StillOpen", "Subscriber", "Worn", "load", "save",
 ]

@@ -32,6 +32,11 @@ class FacilityRow(Structure):
                 ("data_a", c_uint64), ("data_b", c_uint8 * 5)]
 
 
+class ForwardingRow(Structure):
+    _fields_ = [("s_id", c_uint64), ("sf_type", c_uint64), ("start_time", c_uint64), ("end_time", c_uint64),
+                ("numberx", c_uint64)]
+
+
 class AccessAsked(Structure):
     _fields_ = [("s_id", c_uint64), ("ai_type", c_uint64)]
 
@@ -74,6 +79,10 @@ _CALLS = {
     "hlr_facility_data": [c_uint64, c_uint64, POINTER(FacilityRow)],
     "hlr_forwarding": [c_uint64, c_uint64, c_uint64, POINTER(c_uint64), POINTER(c_uint64)],
     "hlr_next_subscriber": [c_uint64, POINTER(SubscriberRow)],
+    "hlr_next_subscribers": [c_uint64, POINTER(SubscriberRow), c_size_t, POINTER(c_uint64)],
+    "hlr_next_accesses": [c_uint64, c_uint64, POINTER(AccessRow), c_size_t, POINTER(c_uint64)],
+    "hlr_next_facilities": [c_uint64, c_uint64, POINTER(FacilityRow), c_size_t, POINTER(c_uint64)],
+    "hlr_next_forwardings": [c_uint64, c_uint64, c_uint64, POINTER(ForwardingRow), c_size_t, POINTER(c_uint64)],
     "hlr_update_subscriber": [c_uint64, c_uint64, c_uint64, c_uint64],
     "hlr_update_location": [c_uint64, c_uint64],
     "hlr_insert_forwarding": [c_uint64, c_uint64, c_uint64, c_uint64, c_uint64],
@@ -92,6 +101,7 @@ _CALLS = {
     "hlr_divide": [c_uint64, c_uint64, POINTER(RegionRow)],
     "hlr_dissolve": [c_uint64, POINTER(RegionRow)],
     "hlr_regions": [POINTER(RegionList)],
+    "hlr_width": [POINTER(c_uint64)],
     "hlr_propose": [POINTER(Bounds)],
     "hlr_recut": [POINTER(Bounds), POINTER(c_uint64)],
     "hlr_lend": [c_uint64, POINTER(PartHandle)],

@@ -1,24 +1,42 @@
 """Saves all rows of a register as records of the program hlr, and loads a register from such records."""
 import csv
 import re
-from typing import Callable, Dict, Iterable, Iterator, List, TextIO
+from typing import Any, Callable, Dict, Iterable, Iterator, List, TextIO, Tuple
 
 from .refusals import Code, Field, Refused, refusal
 from .register import Access, Facility, Register, Subscriber
 
 
-def _fields_of(register: Register, row: Subscriber) -> Iterator[List[object]]:
-    """Iterates over the records of a subscriber and of everything that belongs to them."""
-    s_id, sub_nbr = row.s_id, f"{row.sub_nbr:015}"
-    digits = "".join(map(str, row.bits)), "".join(f"{each:x}" for each in row.hexes), row.octets.hex()
-    yield ["sub", s_id, sub_nbr, *digits, row.msc_location, row.vlr_location]
-    for access in register.accesses(s_id):
-        yield ["acc", s_id, access.ai_type, access.data1, access.data2, access.data3, access.data4]
-    for facility in register.facilities(s_id):
-        yield ["fac", s_id, facility.sf_type, int(facility.is_active), facility.error_cntrl, facility.data_a,
-               facility.data_b]
-        for start_time, end_time, numberx in register.forwardings(s_id, facility.sf_type):
-            yield ["icf", sub_nbr, facility.sf_type, start_time, end_time, f"{numberx:015}"]
+class _Rows:
+    """The rows of a table in the order of their keys, taken for one subscriber or one facility at a time."""
+
+    def __init__(self, rows: Iterator[Any], key: Callable[[Any], Tuple[int, ...]]) -> None:
+        self._rows, self._key = rows, key
+        self._next = next(rows, None)
+
+    def take(self, *key: int) -> Iterator[Any]:
+        """Iterates over the rows with this key, if they are the next ones."""
+        while self._next is not None and self._key(self._next) == key:
+            row, self._next = self._next, next(self._rows, None)
+            yield row
+
+
+def _all_fields(register: Register) -> Iterator[List[object]]:
+    """Iterates over the records of each subscriber and of everything that belongs to them."""
+    accesses = _Rows(register.accesses(), lambda row: (row.s_id,))
+    facilities = _Rows(register.facilities(), lambda row: (row.s_id,))
+    forwardings = _Rows(register.forwardings(), lambda row: (row.s_id, row.sf_type))
+    for row in register.subscribers():
+        s_id, sub_nbr = row.s_id, f"{row.sub_nbr:015}"
+        digits = "".join(map(str, row.bits)), "".join(f"{each:x}" for each in row.hexes), row.octets.hex()
+        yield ["sub", s_id, sub_nbr, *digits, row.msc_location, row.vlr_location]
+        for access in accesses.take(s_id):
+            yield ["acc", s_id, access.ai_type, access.data1, access.data2, access.data3, access.data4]
+        for facility in facilities.take(s_id):
+            yield ["fac", s_id, facility.sf_type, int(facility.is_active), facility.error_cntrl, facility.data_a,
+                   facility.data_b]
+            for each in forwardings.take(s_id, facility.sf_type):
+                yield ["icf", sub_nbr, each.sf_type, each.start_time, each.end_time, f"{each.numberx:015}"]
 
 
 def save(register: Register, file: TextIO) -> int:
@@ -36,10 +54,9 @@ def save(register: Register, file: TextIO) -> int:
     with register.held():
         if any(region.is_piece for region in register.regions()):
             raise refusal(Code.MOVING, "save")
-        for row in register.subscribers():
-            for fields in _fields_of(register, row):
-                print(*fields, sep=",", file=file)
-                records += 1
+        for fields in _all_fields(register):
+            print(*fields, sep=",", file=file)
+            records += 1
     return records
 
 

@@ -4,13 +4,17 @@ import enum
 import threading
 from dataclasses import dataclass
 from operator import index
-from typing import Any, Callable, ContextManager, Iterable, Iterator, List, Optional, Sequence, Tuple, Type, Union
+from typing import (Any, Callable, ContextManager, Iterable, Iterator, List, Optional, Sequence, Tuple, Type, Union,
+                    overload)
 
 from . import library as c
-from .refusals import Code, Field, NoAccess, NoFacility, NoForwarding, NoSubscriber, NotOpen, Refused, refusal
+from .refusals import Code, Field, NoAccess, NoFacility, NoForwarding, NotOpen, Refused, refusal
 
 #: How many cells there are.
 CELLS = c.CELLS
+
+#: How many rows one call reads for an iterator over a table.
+_PAGE = 256
 
 
 class Side(enum.IntEnum):
@@ -67,6 +71,17 @@ class Facility:
     error_cntrl: int = 0
     data_a: int = 0
     data_b: str = "AAAAA"
+
+
+@dataclass
+class Forwarding:
+    """A Call_Forwarding row."""
+
+    s_id: int
+    sf_type: int
+    start_time: int
+    end_time: int
+    numberx: int
 
 
 @dataclass(frozen=True)
@@ -135,6 +150,10 @@ def _access(row: c.AccessRow) -> Access:
 def _facility(row: c.FacilityRow) -> Facility:
     return Facility(row.s_id, row.sf_type, bool(row.is_active), row.error_cntrl, row.data_a,
                     bytes(row.data_b).decode("ascii"))
+
+
+def _forwarding(row: c.ForwardingRow) -> Forwarding:
+    return Forwarding(row.s_id, row.sf_type, row.start_time, row.end_time, row.numberx)
 
 
 def _listed(numbers: c.Numbers) -> List[int]:
@@ -353,9 +372,34 @@ class Register(_Open):
         self._call("next_subscriber", s_id, row)
         return _subscriber(row)
 
+    def next_subscribers(self, s_id: int, room: int = _PAGE) -> List[Subscriber]:
+        """Reads the first rows with an s_id from this one on, in order: as many as there are, and at most so many.
+        Raises Away.
+
+        >>> with Register() as register:
+        ...     register.add_subscriber(Subscriber(70, 70))
+        ...     register.add_subscriber(Subscriber(7, 77))
+        ...     [row.s_id for row in register.next_subscribers(1, 1)], len(register.next_subscribers(1))
+        ([7], 2)
+        """
+        return self._page("next_subscribers", c.SubscriberRow, _subscriber, room, s_id)
+
+    def next_accesses(self, s_id: int, ai_type: int, room: int = _PAGE) -> List[Access]:
+        """Reads the first rows from an access on, by s_id and then ai_type, as `next_subscribers` does. Raises Away."""
+        return self._page("next_accesses", c.AccessRow, _access, room, s_id, ai_type)
+
+    def next_facilities(self, s_id: int, sf_type: int, room: int = _PAGE) -> List[Facility]:
+        """Reads the first rows from a facility on, by s_id and then sf_type, as `next_subscribers` does. Raises Away."""
+        return self._page("next_facilities", c.FacilityRow, _facility, room, s_id, sf_type)
+
+    def next_forwardings(self, s_id: int, sf_type: int, start_time: int, room: int = _PAGE) -> List[Forwarding]:
+        """Reads the first rows from a forwarding on, by s_id, then sf_type, then start_time, as `next_subscribers` does.
+        Raises Away."""
+        return self._page("next_forwardings", c.ForwardingRow, _forwarding, room, s_id, sf_type, start_time)
+
     def subscribers(self, s_id: int = 1) -> Iterator[Subscriber]:
-        """Iterates over all subscribers from this s_id on, in order, and reads each one as it is asked for. Raises
-        Away.
+        """Iterates over all rows with an s_id from this one on, in order. It reads 256 rows at a time, so each row is as
+        it was when its page was read. Raises Away.
 
         >>> with Register() as register:
         ...     register.add_subscriber(Subscriber(70, 70))
@@ -363,40 +407,91 @@ class Register(_Open):
         ...     [row.s_id for row in register.subscribers()]
         [7, 70]
         """
-        self._check_open("subscribers")
-        return self._subscribers_from(s_id)
+        return self._pages(self.next_subscribers, lambda row: (row.s_id + 1,), s_id)
 
-    def _subscribers_from(self, s_id: int) -> Iterator[Subscriber]:
-        while True:
-            try:
-                row = self.next_subscriber(s_id)
-            except NoSubscriber:
-                return
-            yield row
-            s_id = row.s_id + 1
+    @overload
+    def accesses(self) -> Iterator[Access]: ...
 
-    def accesses(self, s_id: int) -> List[Access]:
-        """Reads the accesses of a subscriber, in the order of ai_type. Raises Field, Moving, Away."""
+    @overload
+    def accesses(self, s_id: int) -> List[Access]: ...
+
+    def accesses(self, s_id: Optional[int] = None) -> Union[Iterator[Access], List[Access]]:
+        """Reads the accesses of a subscriber, in the order of ai_type. Raises Field, Moving, Away. Without an s_id it
+        iterates over those of all subscribers, in the order of s_id and ai_type, as `subscribers` does. Raises Away.
+
+        >>> with Register() as register:
+        ...     register.add_subscriber(Subscriber(7, 77))
+        ...     register.add_access(Access(7, 2))
+        ...     [(row.s_id, row.ai_type) for row in register.accesses()]
+        [(7, 2)]
+        """
+        if s_id is None:
+            return self._pages(self.next_accesses, lambda row: (row.s_id, row.ai_type + 1), 0, 0)
         return _found(self.access_data, NoAccess, [(s_id, ai_type) for ai_type in range(1, 5)])
 
-    def facilities(self, s_id: int) -> List[Facility]:
-        """Reads the facilities of a subscriber, in the order of sf_type. Raises Field, Moving, Away."""
+    @overload
+    def facilities(self) -> Iterator[Facility]: ...
+
+    @overload
+    def facilities(self, s_id: int) -> List[Facility]: ...
+
+    def facilities(self, s_id: Optional[int] = None) -> Union[Iterator[Facility], List[Facility]]:
+        """Reads the facilities of a subscriber, in the order of sf_type. Raises Field, Moving, Away. Without an s_id it
+        iterates over those of all subscribers, in the order of s_id and sf_type, as `subscribers` does. Raises Away."""
+        if s_id is None:
+            return self._pages(self.next_facilities, lambda row: (row.s_id, row.sf_type + 1), 0, 0)
         return _found(self.facility_data, NoFacility, [(s_id, sf_type) for sf_type in range(1, 5)])
 
-    def forwardings(self, s_id: int, sf_type: int) -> List[Tuple[int, int, int]]:
+    @overload
+    def forwardings(self) -> Iterator[Forwarding]: ...
+
+    @overload
+    def forwardings(self, s_id: int, sf_type: int) -> List[Tuple[int, int, int]]: ...
+
+    def forwardings(self, s_id: Optional[int] = None,
+                    sf_type: Optional[int] = None) -> Union[Iterator[Forwarding], List[Tuple[int, int, int]]]:
         """Returns the start_time, end_time and numberx of each forwarding of a facility, in the order of start_time.
-        Raises Field, Moving, Away.
+        Raises Field, Moving, Away. Without an s_id and a sf_type it iterates over the rows of all facilities, in the
+        order of s_id, sf_type and start_time, as `subscribers` does. Raises Away.
 
         >>> with Register() as register:
         ...     register.add_subscriber(Subscriber(7, 77))
         ...     register.add_facility(Facility(7, 2))
         ...     register.insert_forwarding(77, 2, 8, 16, 100)
         ...     register.forwardings(7, 2), register.forwardings(7, 1)
+        ...     list(register.forwardings())
         ([(8, 16, 100)], [])
+        [Forwarding(s_id=7, sf_type=2, start_time=8, end_time=16, numberx=100)]
         """
+        if s_id is None and sf_type is None:
+            return self._pages(self.next_forwardings, lambda row: (row.s_id, row.sf_type, row.start_time + 1), 0, 0, 0)
+        if s_id is None or sf_type is None:
+            raise TypeError("forwardings: an s_id and a sf_type are passed, or neither")
+
         def read(start_time: int) -> Tuple[int, int, int]:
             return (start_time, *self.forwarding(s_id, sf_type, start_time))
         return _found(read, NoForwarding, [(0,), (8,), (16,)])
+
+    def _page(self, name: str, row: Any, told: Callable[[Any], Any], room: int, *key: int) -> List[Any]:
+        """What is told of the first rows from a key on, at most so many."""
+        self._check_open(name)
+        rows, count = (row * _number(room))(), ctypes.c_uint64()
+        self._call(name, *key, ctypes.cast(rows, ctypes.POINTER(row)), room, count)
+        return [told(each) for each in rows[:count.value]]
+
+    def _pages(self, read: Callable[..., List[Any]], behind: Callable[[Any], Tuple[int, ...]],
+               *key: int) -> Iterator[Any]:
+        """The rows from a key on, page by page; `behind` gives the key behind a row."""
+        self._check_open(read.__name__)
+        return self._rows(read, behind, key)
+
+    def _rows(self, read: Callable[..., List[Any]], behind: Callable[[Any], Tuple[int, ...]],
+              key: Tuple[int, ...]) -> Iterator[Any]:
+        page = read(*key)
+        while page:
+            key = behind(page[-1])
+            yield from page
+            page = read(*key)
 
     def subscriber_data_many(self, s_ids: Sequence[int]) -> List[Union[Subscriber, Refused]]:
         """Reads many subscribers in one call: for each s_id it returns the row, or the exception that `subscriber_data`
@@ -565,6 +660,17 @@ class Register(_Open):
         regions = c.RegionList()
         self._call("regions", regions)
         return [_region(row) for row in regions.regions[:regions.count]]
+
+    def width(self) -> int:
+        """Tells the width of a zone.
+
+        >>> with Register(width=4) as register:
+        ...     register.width()
+        4
+        """
+        width = ctypes.c_uint64()
+        self._call("width", width)
+        return width.value
 
     def propose(self) -> List[int]:
         """Returns bounds between zones by which each part would have about its share of the published rows, so post

@@ -22,7 +22,7 @@ import hlr.library
 import hlr.records
 import hlr.refusals
 import hlr.register
-from hlr import Access, Facility, Part, Region, Register, Side, Subscriber
+from hlr import Access, Facility, Forwarding, Part, Region, Register, Side, Subscriber
 
 PYTHON = pathlib.Path(__file__).resolve().parent.parent
 CRATES = PYTHON.parent / "crates"
@@ -84,11 +84,11 @@ class Alike(unittest.TestCase):
         types = {"uint64_t": "c_ulong", "size_t": "c_ulong", "uint8_t": "c_ubyte",
                  "hlr_access_asked": "AccessAsked", "hlr_destination_asked": "DestinationAsked",
                  "hlr_subscriber": "SubscriberRow", "hlr_access": "AccessRow",
-                 "hlr_facility": "FacilityRow", "hlr_numbers": "Numbers", "hlr_region": "RegionRow",
+                 "hlr_facility": "FacilityRow", "hlr_forwarding_row": "ForwardingRow", "hlr_numbers": "Numbers", "hlr_region": "RegionRow",
                  "hlr_region_list": "RegionList", "hlr_bounds": "Bounds", "hlr": "Handle",
                  "hlr_part": "PartHandle"}
         told = re.findall(r"^uint8_t (hlr_[a-z_]+)\(([^)]*)\);", HEADER.read_text(), re.M)
-        self.assertEqual(len(told), 50)
+        self.assertEqual(len(told), 55)
         library = hlr.library.library()
         for name, parameters in told:
             wanted = []
@@ -104,7 +104,7 @@ class Alike(unittest.TestCase):
 
     def test_refusals(self):
         told = re.findall(r"^ \* Refusals: ([A-Z_, ]+|none)\n \*/\nuint8_t hlr_([a-z_]+)\(", HEADER.read_text(), re.M)
-        self.assertEqual(len(told), 50)
+        self.assertEqual(len(told), 55)
         for refusals, name in told:
             if name != "open":
                 text = " ".join(inspect.getdoc(method(name)).split())
@@ -177,11 +177,46 @@ class Calls(unittest.TestCase):
             self.assertEqual(register.forwardings(7, 2), [(8, 16, 100), (16, 17, 101)])
             self.assertEqual((register.accesses(8), register.facilities(8), register.forwardings(7, 1)), ([], [], []))
             self.assertRaises(hlr.Field, register.accesses, 0)
+            self.assertEqual(list(register.accesses()), [Access(7, 1), Access(7, 4)])
+            self.assertEqual(list(register.facilities()), [Facility(7, 2)])
+            self.assertEqual(list(register.forwardings()), [Forwarding(7, 2, 8, 16, 100), Forwarding(7, 2, 16, 17, 101)])
+            self.assertRaises(TypeError, register.forwardings, 7)
+            self.assertEqual(register.width(), 4)
             with register.lend(0):
-                self.assertRaises(hlr.Away, list, register.subscribers())
+                self.assertEqual(register.width(), 4)
+                for rows in (register.subscribers, register.accesses, register.facilities, register.forwardings):
+                    self.assertRaises(hlr.Away, list, rows())
                 file = io.StringIO()
                 self.assertRaises(hlr.Away, hlr.save, register, file)
                 self.assertEqual(file.getvalue(), "")
+
+    def test_pages(self):
+        """An iterator shows each row once, whatever falls at the border of two pages, two parts or a loose piece."""
+        with hlr.Register(parts=3, width=30) as register:
+            for count in (0, 1, 255, 256, 257, 700):
+                for s_id in range(len(list(register.subscribers())) + 1, count + 1):
+                    register.add_subscriber(Subscriber(s_id, s_id))
+                    for kind in range(1 + s_id % 4, 5):
+                        register.add_access(Access(s_id, kind))
+                        register.add_facility(Facility(s_id, kind))
+                        register.insert_forwarding(s_id, kind, 8 * (s_id % 3), 24, s_id)
+                typed = [(s_id, kind) for s_id in range(1, count + 1) for kind in range(1 + s_id % 4, 5)]
+                self.assertEqual([row.s_id for row in register.subscribers()], list(range(1, count + 1)))
+                self.assertEqual([(row.s_id, row.ai_type) for row in register.accesses()], typed)
+                self.assertEqual([(row.s_id, row.sf_type) for row in register.facilities()], typed)
+                self.assertEqual(list(register.forwardings()),
+                                 [Forwarding(s_id, kind, 8 * (s_id % 3), 24, s_id) for s_id, kind in typed])
+            register.give(0, Side.HIGH, 256)
+            self.assertEqual([row.s_id for row in register.subscribers(250)], list(range(250, 701)))
+            for room in (0, 1, 2):
+                self.assertEqual([row.s_id for row in register.next_subscribers(255, room)], [255, 256][:room])
+            for key in ((701,), (16777217,), ((1 << 64) - 1,)):
+                self.assertEqual(register.next_subscribers(*key), [])
+            self.assertEqual(register.next_accesses(700, 5, 1), [])
+            self.assertEqual(register.next_facilities(699, (1 << 64) - 1, 1), [Facility(700, 1)])
+            self.assertEqual(register.next_forwardings(699, 4, (1 << 64) - 1, 1), [Forwarding(700, 1, 8, 24, 700)])
+            self.assertRaises(hlr.Field, register.next_subscribers, 1, -1)
+            self.assertRaises(hlr.Field, register.next_subscribers, 1 << 64)
 
     def test_many(self):
         def one(call, *asked):

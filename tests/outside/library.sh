@@ -74,11 +74,12 @@ examples() {
   fi
 }
 
-# Each field comes back as it went in; many questions are answered as one is; and a handle that goes from thread to thread,
-# which tells 1,000 rows in both cells.
+# Each field comes back as it went in; many questions are answered as one is; pages show each row once; and a handle that
+# goes from thread to thread, which tells 1,000 rows in both cells.
 clients() {
   if client rows "$in_library/rows.c"; then ended 'rows go in and come back' /dev/null "$room/rows"; fi
   if client many "$in_library/many.c"; then ended 'many questions in one call' /dev/null "$room/many"; fi
+  if client pages "$in_library/pages.c"; then ended 'rows by pages' /dev/null "$room/pages"; fi
   if client handed "$in_library/handed.c"; then ended 'a handle that is handed over' <(echo 0 1000 1000 0 254) "$room/handed"; fi
 }
 

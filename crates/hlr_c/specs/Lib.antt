@@ -5,6 +5,7 @@ pub mod Inside
 pub mod Listing
 pub mod Many
 pub mod Opened
+pub mod Pages
 pub mod Parts
 pub mod Reports
 pub mod Rows

@@ -23,6 +23,7 @@ mod listing;
 mod lists;
 mod many;
 mod opening;
+mod pages;
 mod part;
 mod part_changes;
 mod part_many;
@@ -38,6 +39,6 @@ pub use codes::{AWAY, DONE, ELSEWHERE, NOT_OPEN, STILL_OPEN};
 pub use handle::Hlr;
 pub use part::HlrPart;
 pub use rows::{
-    HlrAccess, HlrAccessAsked, HlrBounds, HlrDestinationAsked, HlrFacility, HlrNumbers, HlrRegion,
-    HlrRegions, HlrSubscriber,
+    HlrAccess, HlrAccessAsked, HlrBounds, HlrDestinationAsked, HlrFacility, HlrForwardingRow,
+    HlrNumbers, HlrRegion, HlrRegions, HlrSubscriber,
 };

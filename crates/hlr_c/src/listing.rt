@@ -17,7 +17,7 @@ use std::alloc::Global;
 use tatp_rows::is_start_time;
 
 /// Makes a facility row as C has it.
-fn facility_for_c(row: &Facility) -> HlrFacility
+pub(crate) fn facility_for_c(row: &Facility) -> HlrFacility
     ensures { result ≡ row.now }
 {
     HlrFacility {

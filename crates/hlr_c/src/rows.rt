@@ -131,6 +131,44 @@ impl Model for HlrFacility {
     } };
 }
 
+/// A Call_Forwarding row (TATP, section 2.4).
+#[repr(C)]
+#[derive(Clone, Copy, Debug, PartialEq, Eq)]
+pub struct HlrForwardingRow {
+    /// The subscriber, 1..=16,777,216.
+    pub s_id: u64,
+    /// The type of the facility, 1..=4.
+    pub sf_type: u64,
+    /// The hour at which it starts, 0, 8 or 16.
+    pub start_time: u64,
+    /// The hour at which it ends, 1..=24.
+    pub end_time: u64,
+    /// The number to which calls are forwarded, below 10^15.
+    pub numberx: u64,
+}
+
+impl Model for HlrForwardingRow {
+    ghost use Rattle.tatp_rows.specs.Rows.{CallForwardingRow};
+
+    ghost Value = { CallForwardingRow };
+
+    ghost view = { λ f. record {
+      s_id = f.s_id;
+      sf_type = f.sf_type;
+      start_time = f.start_time;
+      end_time = f.end_time;
+      numberx = f.numberx;
+    } };
+
+    ghost inverse = { λ f. record {
+      s_id = f.s_id;
+      sf_type = f.sf_type;
+      start_time = f.start_time;
+      end_time = f.end_time;
+      numberx = f.numberx;
+    } };
+}
+
 /// A query for an access.
 #[repr(C)]
 #[derive(Clone, Copy, Debug, PartialEq, Eq)]
@@ -205,6 +243,8 @@ const _: () = prove!(size_of::<HlrSubscriber>() == 64);
 const _: () = prove!(size_of::<HlrAccess>() == 40);
 
 const _: () = prove!(size_of::<HlrFacility>() == 48);
+
+const _: () = prove!(size_of::<HlrForwardingRow>() == 40);
 
 const _: () = prove!(size_of::<HlrAccessAsked>() == 16);
 

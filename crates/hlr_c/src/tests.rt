@@ -23,6 +23,7 @@ use std::test::Fail;
 mod drawn;
 mod drawn_lending;
 mod lent;
+mod pages;
 
 const NO_ROW: HlrSubscriber = HlrSubscriber {
     s_id: 0,

@@ -15,6 +15,8 @@ mod lender_tests;
 #[cfg(test)]
 mod lent_tests;
 #[cfg(test)]
+mod page_tests;
+#[cfg(test)]
 mod parting_tests;
 #[cfg(test)]
 mod plain;

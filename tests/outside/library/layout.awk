@@ -8,7 +8,7 @@
 BEGIN {
   size["u8"] = align["u8"] = 1
   size["u64"] = align["u64"] = size["*mut u8"] = align["*mut u8"] = 8
-  structs = split("Hlr HlrPart HlrSubscriber HlrAccess HlrFacility HlrAccessAsked HlrDestinationAsked HlrNumbers HlrRegion HlrRegions HlrBounds", list, " ")
+  structs = split("Hlr HlrPart HlrSubscriber HlrAccess HlrFacility HlrForwardingRow HlrAccessAsked HlrDestinationAsked HlrNumbers HlrRegion HlrRegions HlrBounds", list, " ")
   for (i in list) name[list[i]] = snake(list[i])
   name["HlrRegions"] = "hlr_region_list"
 }

@@ -160,6 +160,56 @@ static void numbers(void) {
     IS(found.count == 1 && found.numbers[0] == 4);
 }
 
+static int is_forwarding(hlr_forwarding_row found, uint64_t sf_type, uint64_t start_time, uint64_t end_time,
+                         uint64_t numberx) {
+    return found.s_id == 70 && found.sf_type == sf_type && found.start_time == start_time && found.end_time == end_time &&
+           found.numberx == numberx;
+}
+
+/* each field of a row that is listed, and no byte behind the last row */
+static void listed(void) {
+    struct { hlr_subscriber rows[1]; uint8_t behind[8]; } subscribers;
+    struct { hlr_access rows[1]; uint8_t behind[8]; } accesses;
+    struct { hlr_facility rows[2]; uint8_t behind[8]; } facilities;
+    struct { hlr_forwarding_row rows[3]; uint8_t behind[8]; } forwardings;
+    uint8_t other[8];
+    uint64_t count, width;
+    OTHER(subscribers);
+    OTHER(accesses);
+    OTHER(facilities);
+    OTHER(forwardings);
+    OTHER(other);
+    OTHER(count);
+    OTHER(width);
+    DONE(hlr_next_subscribers(&handle, 70, subscribers.rows, 1, &count));
+    IS(count == 1 && !memcmp(subscribers.behind, other, 8));
+    hlr_subscriber found = subscribers.rows[0];
+    SAME(seventy, s_id);
+    SAME(seventy, sub_nbr);
+    SAME(seventy, bits);
+    SAME(seventy, hexes);
+    SAME(seventy, bytes);
+    SAME(seventy, msc_location);
+    SAME(seventy, vlr_location);
+    DONE(hlr_next_accesses(&handle, 70, 3, accesses.rows, 1, &count));
+    IS(count == 1 && !memcmp(accesses.behind, other, 8));
+    IS(accesses.rows[0].s_id == 70 && accesses.rows[0].ai_type == 3 && accesses.rows[0].data1 == 201);
+    IS(accesses.rows[0].data2 == 102 && !memcmp(accesses.rows[0].data3, "ABC", 3));
+    IS(!memcmp(accesses.rows[0].data4, "VWXYZ", 5));
+    DONE(hlr_next_facilities(&handle, 0, 0, facilities.rows, 2, &count));
+    IS(count == 2 && !memcmp(facilities.behind, other, 8));
+    IS(facilities.rows[0].s_id == 70 && facilities.rows[0].sf_type == 2 && facilities.rows[0].is_active == 1);
+    IS(facilities.rows[0].error_cntrl == 203 && facilities.rows[0].data_a == 255);
+    IS(!memcmp(facilities.rows[0].data_b, "FGHIJ", 5) && facilities.rows[1].sf_type == 4);
+    DONE(hlr_next_forwardings(&handle, 70, 2, 0, forwardings.rows, 3, &count));
+    IS(count == 3 && !memcmp(forwardings.behind, other, 8));
+    IS(is_forwarding(forwardings.rows[0], 2, 0, 23, 999999999999999));
+    IS(is_forwarding(forwardings.rows[1], 2, 16, 24, 1600));
+    IS(is_forwarding(forwardings.rows[2], 4, 8, 24, 4));
+    DONE(hlr_width(&handle, &width));
+    IS(width == 4);
+}
+
 static int is_region(hlr_region found, uint64_t lo, uint64_t hi, uint64_t is_piece, uint64_t number) {
     return found.lo == lo && found.hi == hi && found.is_piece == is_piece && found.number == number;
 }
@@ -265,6 +315,7 @@ int main(void) {
     access_of_seventy();
     facility();
     numbers();
+    listed();
     regions();
     bounds();
     cells();
