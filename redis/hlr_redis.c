@@ -1,0 +1,159 @@
+/*
+ * hlr.so: a module for Redis 7.0 and later and for Valkey, whose data type is a home location register of libhlr.
+ *
+ *     redis-server --loadmodule ./hlr.so
+ *     redis-cli HLR.CREATE hlr
+ *     redis-cli HLR.ADDSUB hlr 7 000000000000007 0000000000 0000000000 00000000000000000000 1 268435456
+ *     redis-cli HLR.GSD hlr 7
+ *
+ * A register is the value of a key. Redis brings the network, rights, persistence, replicas, failover and the cluster; the
+ * register decides everything about rows. The module only translates between the two: words to numbers, codes to replies.
+ * A read of a row that isn't there replies null. A write that is refused replies an error whose first word is the code.
+ *
+ * A register has one part, because parts are for threads and Redis runs all commands in one. Its counts are what hlr_views
+ * tells as published and as unposted, added up.
+ *
+ * What hlr.h asks of callers is met so: Redis makes one call at a time on a register, from its main thread; the thread that
+ * frees an unlinked register got it through a queue with a lock. A forked child makes calls that read, and the fork came
+ * between two commands, so no call was at work. Redis's threads have 4 MB of stack and more.
+ *
+ * memory.c has what registers take of memory, type.c the data type, rows.c and walk.c rows as bytes and in order, fields.c
+ * and replies.c numbers and letters in and out, reads.c, writes.c and add.c the commands. This file tells Redis of them.
+ */
+#include "hlr_redis.h"
+#include <string.h>
+
+#define MODULE_VERSION (HLR_VERSION_MAJOR * 10000 + HLR_VERSION_MINOR * 100 + HLR_VERSION_PATCH)
+
+struct redis_calls redis;
+redis_type *store_type;
+
+/* ---- the commands, as COMMAND INFO and COMMAND DOCS tell them ---- */
+
+#define NUMBER(called) \
+    { .name = called, .type = REDIS_INTEGER, .key_spec = -1 }
+#define TEXT(called) \
+    { .name = called, .type = REDIS_TEXT, .key_spec = -1 }
+#define TEXTS(called) \
+    { .name = called, .type = REDIS_TEXT, .key_spec = -1, .flags = REDIS_MULTIPLE }
+#define WORD(called, typed) \
+    { .name = called, .type = REDIS_WORD, .key_spec = -1, .token = typed }
+#define OPTION(called, typed) \
+    { .name = called, .type = REDIS_INTEGER, .key_spec = -1, .token = typed, .flags = REDIS_OPTIONAL }
+#define GROUPS(called, list) \
+    { .name = called, .type = REDIS_BLOCK, .key_spec = -1, .flags = REDIS_MULTIPLE, .arguments = list }
+#define END \
+    { 0 }
+/* The arguments of a command with a key: the key, and then these. */
+#define KEY_AND(...) (redis_argument[]){{.name = "key", .type = REDIS_KEY}, __VA_ARGS__, END}
+#define KEY_ALONE (redis_argument[]){{.name = "key", .type = REDIS_KEY}, END}
+
+static redis_argument access_asked[] = {NUMBER("s_id"), NUMBER("ai_type"), END};
+static redis_argument destination_asked[] = {NUMBER("s_id"), NUMBER("sf_type"), NUMBER("start_time"), NUMBER("end_time"), END};
+static redis_argument count_kinds[] = {WORD("hours", "HOURS"), WORD("areas", "AREAS"), WORD("zones", "ZONES"), END};
+#define COUNT_KIND \
+    { .name = "kind", .type = REDIS_ONE_OF, .key_spec = -1, .flags = REDIS_OPTIONAL, .arguments = count_kinds }
+
+/* What a command may do. One that may need memory is refused once maxmemory is reached; location updates and the like go
+ * on, since they need none. */
+#define READS "readonly fast"
+#define READS_ALL "readonly"
+#define CHANGES "write fast"
+#define GROWS "write deny-oom fast"
+#define GROWS_MUCH "write deny-oom"
+
+#define READ_KEY (REDIS_KEY_RO | REDIS_KEY_ACCESS)
+#define UPDATE_KEY (REDIS_KEY_RW | REDIS_KEY_UPDATE)
+#define INSERT_KEY (REDIS_KEY_RW | REDIS_KEY_INSERT)
+#define DELETE_KEY (REDIS_KEY_RW | REDIS_KEY_DELETE)
+
+#define ONE_ROW "O(log N)"
+#define ROWS "O(K log N), where K is how many rows are asked for"
+
+static const struct command {
+    const char *name;
+    redis_function function;
+    const char *flags;
+    uint64_t key; /* what the command does to its key, 0 where it has none */
+    int arity;
+    redis_argument *arguments;
+    const char *summary, *complexity;
+} commands[] = {
+    {"hlr.create", create, GROWS, INSERT_KEY, -2, KEY_AND(OPTION("width", "ZONE")), "Makes an empty register", "O(1)"},
+    {"hlr.addsub", add_subscriber, GROWS, INSERT_KEY, 9,
+     KEY_AND(NUMBER("s_id"), TEXT("sub_nbr"), TEXT("bits"), TEXT("hexes"), TEXT("bytes"), NUMBER("msc_location"), NUMBER("vlr_location")),
+     "Adds a subscriber", ONE_ROW},
+    {"hlr.addacc", add_access, GROWS, INSERT_KEY, 8,
+     KEY_AND(NUMBER("s_id"), NUMBER("ai_type"), NUMBER("data1"), NUMBER("data2"), TEXT("data3"), TEXT("data4")), "Adds an access of a subscriber", ONE_ROW},
+    {"hlr.addfac", add_facility, GROWS, INSERT_KEY, 8,
+     KEY_AND(NUMBER("s_id"), NUMBER("sf_type"), NUMBER("is_active"), NUMBER("error_cntrl"), NUMBER("data_a"), TEXT("data_b")),
+     "Adds a facility of a subscriber", ONE_ROW},
+    {"hlr.add", add, GROWS_MUCH, INSERT_KEY, -3, KEY_AND(TEXTS("records")), "Adds many rows, each one or not at all", "O(K log N), where K is how many rows are added"},
+    {"hlr.gsd", get_subscriber, READS, READ_KEY, 3, KEY_AND(NUMBER("s_id")), "Reads a subscriber", ONE_ROW},
+    {"hlr.gnd", get_destination, READS, READ_KEY, 6,
+     KEY_AND(NUMBER("s_id"), NUMBER("sf_type"), NUMBER("start_time"), NUMBER("end_time")), "Reads the numbers that an active facility forwards to", ONE_ROW},
+    {"hlr.gad", get_access, READS, READ_KEY, 4, KEY_AND(NUMBER("s_id"), NUMBER("ai_type")), "Reads an access", ONE_ROW},
+    {"hlr.gfd", get_facility, READS, READ_KEY, 4, KEY_AND(NUMBER("s_id"), NUMBER("sf_type")), "Reads a facility", ONE_ROW},
+    {"hlr.gcf", get_forwarding, READS, READ_KEY, 5, KEY_AND(NUMBER("s_id"), NUMBER("sf_type"), NUMBER("start_time")), "Reads a forwarding", ONE_ROW},
+    {"hlr.find", find, READS, READ_KEY, 3, KEY_AND(TEXT("sub_nbr")), "Finds the subscriber who has a number", ONE_ROW},
+    {"hlr.usd", update_subscriber, CHANGES, UPDATE_KEY, 6,
+     KEY_AND(NUMBER("s_id"), NUMBER("sf_type"), NUMBER("bit_1"), NUMBER("data_a")), "Sets bit_1 of a subscriber and data_a of a facility, or neither", ONE_ROW},
+    {"hlr.ul", update_location, CHANGES, UPDATE_KEY, 4, KEY_AND(TEXT("sub_nbr"), NUMBER("vlr_location")), "Sets the location of the subscriber who has a number", ONE_ROW},
+    {"hlr.icf", insert_forwarding, GROWS, INSERT_KEY, 7,
+     KEY_AND(TEXT("sub_nbr"), NUMBER("sf_type"), NUMBER("start_time"), NUMBER("end_time"), TEXT("numberx")), "Adds a forwarding", ONE_ROW},
+    {"hlr.dcf", delete_forwarding, CHANGES, DELETE_KEY, 5, KEY_AND(TEXT("sub_nbr"), NUMBER("sf_type"), NUMBER("start_time")), "Removes a forwarding", ONE_ROW},
+    {"hlr.active", set_active, CHANGES, UPDATE_KEY, 5, KEY_AND(NUMBER("s_id"), NUMBER("sf_type"), NUMBER("is_active")), "Switches a facility on or off, with its forwardings", ONE_ROW},
+    {"hlr.number", set_number, GROWS, UPDATE_KEY, 4, KEY_AND(NUMBER("s_id"), TEXT("sub_nbr")), "Gives a subscriber another number", ONE_ROW},
+    {"hlr.load", load, GROWS_MUCH, INSERT_KEY, 3, KEY_AND(TEXT("block")), "Adds rows as an AOF file has them", "O(K log N), where K is how many rows the block has"},
+    {"hlr.mgsd", get_subscribers, READS, READ_KEY, -3, KEY_AND({.name = "s_id", .type = REDIS_INTEGER, .key_spec = -1, .flags = REDIS_MULTIPLE}), "Reads subscribers", ROWS},
+    {"hlr.mgad", get_accesses, READS, READ_KEY, -4, KEY_AND(GROUPS("access", access_asked)), "Reads accesses", ROWS},
+    {"hlr.mgnd", get_destinations, READS, READ_KEY, -6, KEY_AND(GROUPS("call", destination_asked)), "Reads the numbers that several facilities forward to", ROWS},
+    {"hlr.counts", counts, READS, READ_KEY, -2, KEY_AND(COUNT_KIND), "Tells the live counts of hours, areas and zones", "O(1)"},
+    {"hlr.recount", recount, READS_ALL, READ_KEY, -2, KEY_AND(COUNT_KIND), "Counts all rows anew", "O(N)"},
+    {"hlr.info", info, READS, READ_KEY, 2, KEY_ALONE, "Tells how many rows a register has, and its memory", "O(1)"},
+    {"hlr.scan", scan, READS_ALL, READ_KEY, -3, KEY_AND(NUMBER("cursor"), OPTION("count", "COUNT")), "Reads all rows of several subscribers", "O(K log N), where K is count"},
+    {"hlr.help", help, "fast", 0, 1, NULL, "Tells the ranges of fields", "O(1)"},
+};
+
+/* ---- loading the module ---- */
+
+static int is_made(redis_context *ctx, const struct command *command) {
+    static const redis_info_sizes sizes = {1, sizeof(redis_history), sizeof(redis_key_spec), sizeof(redis_argument)};
+    int key = command->key != 0;
+    redis_key_spec specs[2] = {
+        {.flags = command->key, .begin = REDIS_BEGIN_INDEX, .begin_by.index.position = 1, .find = REDIS_FIND_RANGE, .find_by.range = {0, 1, 0}},
+        {0},
+    };
+    redis_command_info told = {
+        .sizes = &sizes,
+        .summary = command->summary,
+        .complexity = command->complexity,
+        .since = "0.4.0",
+        .arity = command->arity,
+        .key_specs = key ? specs : NULL,
+        .arguments = command->arguments,
+    };
+    return redis.CreateCommand(ctx, command->name, command->function, command->flags, key, key, key) == REDIS_OK &&
+           redis.SetCommandInfo(redis.GetCommand(ctx, command->name), &told) == REDIS_OK;
+}
+
+/* The section of INFO MODULES. */
+static void tell_info(redis_info *to, int for_crash_report) {
+    (void)for_crash_report;
+    if (redis.InfoAddSection(to, "registers") == REDIS_ERR) return;
+    redis.InfoAddFieldULongLong(to, "count", stores_in_all());
+    redis.InfoAddFieldULongLong(to, "memory", bytes_of_all());
+}
+
+__attribute__((visibility("default"))) int RedisModule_OnLoad(redis_context *ctx, redis_string **argv, int argc);
+
+int RedisModule_OnLoad(redis_context *ctx, redis_string **argv, int argc) {
+    (void)argv, (void)argc;
+    if (redis_begin(ctx, "hlr", MODULE_VERSION) != REDIS_OK) return REDIS_ERR;
+    redis.SetModuleOptions(ctx, REDIS_HANDLES_IO_ERRORS | REDIS_SIGNALS_CHANGES | REDIS_HANDLES_LOADING_ASIDE);
+    store_type = store_type_made(ctx);
+    if (!store_type) return REDIS_ERR;
+    for (size_t place = 0; place < sizeof commands / sizeof *commands; place++)
+        if (!is_made(ctx, &commands[place])) return REDIS_ERR;
+    return redis.RegisterInfoFunc(ctx, tell_info);
+}

@@ -1,0 +1,182 @@
+/*
+ * type.c: the data type, hlrregist: how a register is made, saved, loaded, copied, measured and freed.
+ *
+ * An RDB file, and what DUMP gives, has of a register the width of its zones, then blocks of rows (rows.c), then an empty
+ * block. That is version 0 of the type. The register checks all rows on their way in, and makes its counts anew, so
+ * damaged bytes are refused or are rows in range, and counts are right in either case.
+ */
+#include "hlr_redis.h"
+#include "rows.h"
+#include <stdlib.h>
+
+#define ENCODING_VERSION 0
+
+static unsigned long long stores;
+
+struct store *store_new(uint64_t width, uint8_t *code) {
+    struct store *store = redis.TryAlloc(sizeof *store);
+    *code = HLR_MEMORY;
+    if (!store) return NULL;
+    *store = (struct store){.handle = HLR_CLOSED, .bytes = 0};
+    *code = settled(store, hlr_open(1, width, &store->handle));
+    if (*code != HLR_DONE) {
+        redis.Free(store);
+        return NULL;
+    }
+    __atomic_add_fetch(&stores, 1, __ATOMIC_RELAXED);
+    return store;
+}
+
+/* Redis calls it from its main thread, or from the one that frees unlinked values. */
+void store_free(void *value) {
+    struct store *store = value;
+    settled(store, hlr_close(&store->handle));
+    redis.Free(store);
+    __atomic_sub_fetch(&stores, 1, __ATOMIC_RELAXED);
+}
+
+size_t store_memory(const void *value) { return sizeof(struct store) + ((const struct store *)value)->bytes; }
+
+unsigned long long stores_in_all(void) { return __atomic_load_n(&stores, __ATOMIC_RELAXED); }
+
+void store_counts(struct store *store, int64_t counts[HLR_CELLS]) {
+    int64_t unposted[HLR_CELLS] = {0};
+    hlr_views(&store->handle, counts, unposted);
+    for (int cell = 0; cell < HLR_CELLS; cell++) counts[cell] += unposted[cell];
+}
+
+_Noreturn void end_server(redis_context *ctx, const char *what, const char *why) {
+    redis.Log(ctx, "warning", "%s was done before and is refused now, so this server ends rather than go on with other rows: %s", what, why);
+    exit(1);
+}
+
+/* ---- saving: in a forked child for BGSAVE, a full sync and a rewrite, which hlr.h allows for calls that read ---- */
+
+static uint64_t width_of(struct store *store) {
+    uint64_t width = 0;
+    hlr_width(&store->handle, &width);
+    return width;
+}
+
+static void type_save(redis_io *io, void *value) {
+    struct store *store = value;
+    struct walk walk;
+    size_t length;
+    uint8_t *block = redis.Alloc(BLOCK_BYTES);
+    redis.SaveUnsigned(io, width_of(store));
+    walk_begin(&walk, &store->handle, 0);
+    do {
+        length = block_of_rows(&walk, block);
+        redis.SaveStringBuffer(io, (const char *)block, length);
+    } while (length > 0);
+    redis.Free(block);
+}
+
+/* Where aof-use-rdb-preamble is no, a rewritten AOF file has the same blocks in commands. */
+static void type_rewrite(redis_io *io, redis_string *key, void *value) {
+    struct store *store = value;
+    struct walk walk;
+    size_t length;
+    uint8_t *block = redis.Alloc(BLOCK_BYTES);
+    redis.EmitAOF(io, "HLR.CREATE", "scl", key, "ZONE", (long long)width_of(store));
+    walk_begin(&walk, &store->handle, 0);
+    while ((length = block_of_rows(&walk, block)) > 0) redis.EmitAOF(io, "HLR.LOAD", "sb", key, (const char *)block, length);
+    redis.Free(block);
+}
+
+static void type_digest(redis_digest *digest, void *value) {
+    struct store *store = value;
+    struct walk walk;
+    uint64_t width = width_of(store);
+    size_t length;
+    uint8_t *block = redis.Alloc(BLOCK_BYTES);
+    redis.DigestAddStringBuffer(digest, (const char *)&width, sizeof width);
+    walk_begin(&walk, &store->handle, 0);
+    while ((length = block_of_rows(&walk, block)) > 0) redis.DigestAddStringBuffer(digest, (const char *)block, length);
+    redis.DigestEndSequence(digest);
+    redis.Free(block);
+}
+
+/* ---- loading and copying ---- */
+
+/*
+ * Ends the server if a value is refused that was there before. Out of memory while the server loads its data: a RESTORE of
+ * an AOF file would otherwise be left out. A value that a replica refuses while it isn't loading: RESTORE and COPY only come
+ * there from the master, which has the value. In all other cases the null that follows is enough: RESTORE and COPY reply an
+ * error, and the server doesn't start on a damaged file.
+ */
+static void end_if_kept(redis_context *ctx, uint8_t code) {
+    int flags = redis.GetContextFlags(ctx), is_loading = flags & REDIS_IS_LOADING;
+    if (is_loading ? code == HLR_MEMORY : flags & REDIS_IS_REPLICA) end_server(ctx, "a register", refusal_text(code));
+}
+
+/* Adds blocks until the empty one. */
+static uint8_t load_blocks(redis_io *io, struct store *store) {
+    for (uint8_t code = HLR_DONE; code == HLR_DONE;) {
+        size_t length = 0;
+        char *block = redis.LoadStringBuffer(io, &length);
+        if (!block || redis.IsIOError(io)) return HLR_FIELD;
+        int is_end = length == 0;
+        code = length > BLOCK_BYTES ? HLR_FIELD : settled(store, rows_of_block(&store->handle, (const uint8_t *)block, length));
+        redis.Free(block);
+        if (is_end || code != HLR_DONE) return code;
+    }
+    return HLR_DONE;
+}
+
+static void *type_load(redis_io *io, int version) {
+    uint8_t code = HLR_FIELD;
+    if (version != ENCODING_VERSION) {
+        redis.LogIOError(io, "warning", "a register was saved by a later version of hlr.so: version %d of its rows", version);
+        return NULL;
+    }
+    uint64_t width = redis.LoadUnsigned(io);
+    struct store *store = redis.IsIOError(io) ? NULL : store_new(width, &code);
+    if (store) code = load_blocks(io, store);
+    if (store && code == HLR_DONE) return store;
+    if (store) store_free(store);
+    if (redis.IsIOError(io)) return NULL;
+    redis.LogIOError(io, "warning", "a register is not loaded: %s", refusal_text(code));
+    end_if_kept(redis.GetContextFromIO(io), code);
+    return NULL;
+}
+
+/* A register is copied block by block, so that all kinds of copies have one way. */
+static void *type_copy(redis_string *from_key, redis_string *to_key, const void *value) {
+    (void)from_key, (void)to_key;
+    struct store *from = (struct store *)(uintptr_t)value;
+    struct walk walk;
+    size_t length;
+    uint8_t code, *block = redis.Alloc(BLOCK_BYTES);
+    struct store *to = store_new(width_of(from), &code);
+    walk_begin(&walk, &from->handle, 0);
+    while (code == HLR_DONE && (length = block_of_rows(&walk, block)) > 0)
+        code = settled(to, rows_of_block(&to->handle, block, length));
+    redis.Free(block);
+    if (code == HLR_DONE) return to;
+    if (to) store_free(to);
+    end_if_kept(NULL, code);
+    return NULL;
+}
+
+/* How much work freeing a register is: about one for each block of memory. UNLINK and FLUSHALL ASYNC leave what is more
+ * than 64 to a thread. */
+static size_t type_effort(redis_string *key, const void *value) {
+    (void)key;
+    return 1 + ((const struct store *)value)->bytes / 1024;
+}
+
+redis_type *store_type_made(redis_context *ctx) {
+    redis_type_methods methods = {
+        .version = 4,
+        .rdb_load = type_load,
+        .rdb_save = type_save,
+        .aof_rewrite = type_rewrite,
+        .mem_usage = store_memory,
+        .digest = type_digest,
+        .free = store_free,
+        .free_effort = type_effort,
+        .copy = type_copy,
+    };
+    return redis.CreateDataType(ctx, "hlrregist", ENCODING_VERSION, &methods);
+}
