@@ -17,6 +17,9 @@ extern redis_type *store_type;
 
 /* ---- memory.c ---- */
 
+/* Memory of the server for the module itself, null when none is left. */
+void *try_alloc(size_t bytes);
+
 /* Adds what the calls of this thread took and gave back since the last call of settled to what a store has. It passes the
  * code of the last call on. Each call of hlr.h that may take or give back memory is made as its argument. */
 uint8_t settled(struct store *store, uint8_t code);

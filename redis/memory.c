@@ -13,8 +13,10 @@
 #include "hlr_redis.h"
 #include <string.h>
 
-/* The tests' module has an allocation here that can be told to refuse. */
-#ifndef TRY_ALLOC
+/* A build for tests puts a call here that can be told to refuse memory. */
+#ifdef TRY_ALLOC
+void *TRY_ALLOC(size_t bytes);
+#else
 #define TRY_ALLOC redis.TryAlloc
 #endif
 
@@ -30,6 +32,8 @@ static void take(size_t bytes) {
     taken += bytes;
     __atomic_add_fetch(&all_bytes, bytes, __ATOMIC_RELAXED);
 }
+
+void *try_alloc(size_t bytes) { return TRY_ALLOC(bytes); }
 
 void *__wrap_malloc(size_t bytes) {
     void *block = TRY_ALLOC(bytes);

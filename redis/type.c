@@ -14,7 +14,7 @@
 static unsigned long long stores;
 
 struct store *store_new(uint64_t width, uint8_t *code) {
-    struct store *store = redis.TryAlloc(sizeof *store);
+    struct store *store = try_alloc(sizeof *store);
     *code = HLR_MEMORY;
     if (!store) return NULL;
     *store = (struct store){.handle = HLR_CLOSED, .bytes = 0};

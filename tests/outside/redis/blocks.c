@@ -1,0 +1,162 @@
+/*
+ * blocks.c: blocks of rows without a server: a register goes out as blocks and comes back with the same rows and counts;
+ * damaged blocks are refused or add rows in range, with right counts. Prints what went wrong, and nothing else.
+ *
+ *     blocks [TURNS]
+ */
+#include "rows.h"
+#include <stdio.h>
+#include <stdlib.h>
+#include <string.h>
+
+#define SUBSCRIBERS 3000
+#define ROOM 40
+
+static int wrong;
+
+static void expect(int is_so, const char *what) {
+    if (is_so || wrong > 9) return;
+    printf("%s\n", what);
+    wrong++;
+}
+
+static uint64_t drawn_below(uint64_t bound) {
+    static uint64_t state = 88172645463325252u;
+    state ^= state << 13;
+    state ^= state >> 7;
+    state ^= state << 17;
+    return (state >> 11) % bound;
+}
+
+static void letters(uint8_t *to, int count) {
+    for (; count > 0; count--) *to++ = (uint8_t)('A' + drawn_below(26));
+}
+
+/* A subscriber whose rows take the number's bits: so all combinations of rows come. */
+static void add(hlr *handle, uint64_t s_id, uint64_t kinds) {
+    hlr_subscriber row = {.s_id = s_id, .sub_nbr = 20000000 - s_id, .msc_location = 1 + drawn_below(4294967295), .vlr_location = 1 + drawn_below(4294967295)};
+    for (int place = 0; place < 10; place++) {
+        row.bits[place] = (uint8_t)drawn_below(2);
+        row.hexes[place] = (uint8_t)drawn_below(16);
+        row.bytes[place] = (uint8_t)drawn_below(256);
+    }
+    expect(hlr_add_subscriber(handle, &row) == HLR_DONE, "a subscriber is added");
+    for (uint64_t type = 1; type <= 4; type++) {
+        hlr_access access = {.s_id = s_id, .ai_type = type, .data1 = drawn_below(256), .data2 = drawn_below(256)};
+        hlr_facility facility = {.s_id = s_id, .sf_type = type, .is_active = drawn_below(2), .error_cntrl = drawn_below(256), .data_a = drawn_below(256)};
+        letters(access.data3, 3);
+        letters(access.data4, 5);
+        letters(facility.data_b, 5);
+        if (kinds >> (type - 1) & 1) expect(hlr_add_access(handle, &access) == HLR_DONE, "an access is added");
+        if (!(kinds >> (type + 3) & 1)) continue;
+        expect(hlr_add_facility(handle, &facility) == HLR_DONE, "a facility is added");
+        for (uint64_t start = 0; start <= 16; start += 8)
+            if (drawn_below(2)) expect(hlr_insert_forwarding(handle, row.sub_nbr, type, start, start + 1 + drawn_below(8), drawn_below(1000000000000000)) == HLR_DONE, "a forwarding is added");
+    }
+}
+
+static int same_counts(hlr *handle, const uint64_t wanted[HLR_CELLS]) {
+    uint64_t counted[HLR_CELLS] = {0};
+    int64_t published[HLR_CELLS] = {0}, unposted[HLR_CELLS] = {0};
+    hlr_scan(handle, counted);
+    hlr_views(handle, published, unposted);
+    for (int cell = 0; cell < HLR_CELLS; cell++)
+        if (counted[cell] != (uint64_t)(published[cell] + unposted[cell]) || (wanted && counted[cell] != wanted[cell])) return 0;
+    return 1;
+}
+
+/* All blocks of a register go into another one: their sum of bytes. */
+static size_t copied(hlr *from, hlr *to) {
+    struct walk walk;
+    uint8_t *block = malloc(BLOCK_BYTES);
+    size_t length, sum = 0;
+    walk_begin(&walk, from, 0);
+    while ((length = block_of_rows(&walk, block)) > 0) {
+        expect(rows_of_block(to, block, length) == HLR_DONE, "a block is loaded");
+        sum += length;
+    }
+    free(block);
+    return sum;
+}
+
+/* Both registers have the same rows, as blocks. */
+static int same_rows(hlr *one, hlr *two) {
+    struct walk first, second;
+    uint8_t *left = malloc(BLOCK_BYTES), *right = malloc(BLOCK_BYTES);
+    size_t length;
+    int is_same;
+    walk_begin(&first, one, 0);
+    walk_begin(&second, two, 0);
+    do {
+        length = block_of_rows(&first, left);
+        is_same = block_of_rows(&second, right) == length && memcmp(left, right, length) == 0;
+    } while (is_same && length > 0);
+    free(left);
+    free(right);
+    return is_same;
+}
+
+static void whole(void) {
+    hlr one = HLR_CLOSED, two = HLR_CLOSED;
+    uint64_t counts[HLR_CELLS] = {0};
+    hlr_open(1, 100, &one);
+    hlr_open(1, 100, &two);
+    expect(copied(&one, &two) == 0, "an empty register has no block");
+    for (uint64_t place = 0; place < SUBSCRIBERS; place++) add(&one, 1 + place * 7 + (place > 2000 ? 16000000 - 14000 : 0), place);
+    hlr_scan(&one, counts);
+    expect(copied(&one, &two) > 3 * BLOCK_BYTES, "a register has several blocks");
+    expect(same_rows(&one, &two), "all rows come back");
+    expect(same_counts(&two, counts), "all counts come back");
+    hlr_close(&one);
+    hlr_close(&two);
+}
+
+/* Changes some bytes, cuts the block off, moves a stretch, or draws all of it. */
+static size_t damage(uint8_t *block, size_t length) {
+    size_t at = drawn_below(length), many = drawn_below(length - at);
+    switch (drawn_below(4)) {
+    case 0: return at;
+    case 1: memmove(block + at, block + at + many, length - at - many); return length - many;
+    case 2:
+        for (size_t place = 0; place < length; place++) block[place] = (uint8_t)drawn_below(256);
+        return length;
+    default:
+        for (uint64_t changes = 1 + drawn_below(4); changes > 0; changes--) block[drawn_below(length)] ^= (uint8_t)(1 << drawn_below(8));
+        return length;
+    }
+}
+
+static void damaged(long turns) {
+    struct walk walk;
+    hlr one = HLR_CLOSED;
+    long done = 0;
+    uint8_t *good = malloc(BLOCK_BYTES);
+    hlr_open(1, 4, &one);
+    for (uint64_t s_id = 1; s_id <= ROOM; s_id++) add(&one, s_id, drawn_below(256));
+    walk_begin(&walk, &one, 0);
+    size_t length = block_of_rows(&walk, good);
+    for (long turn = 0; turn < turns; turn++) {
+        hlr two = HLR_CLOSED;
+        uint8_t *bad = malloc(length); /* its own piece of memory, so that a sanitizer sees a read behind its end */
+        memcpy(bad, good, length);
+        size_t left = damage(bad, length);
+        bad = realloc(bad, left > 0 ? left : 1);
+        hlr_open(1, 4, &two);
+        done += rows_of_block(&two, bad, left) == HLR_DONE;
+        expect(same_counts(&two, NULL), "counts of a damaged block are those of its rows");
+        hlr_part part = HLR_CLOSED;
+        expect(hlr_lend(&two, 0, &part) == HLR_DONE, "the part is at home behind a damaged block");
+        hlr_home(&part);
+        hlr_close(&two);
+        free(bad);
+    }
+    expect(done > turns / 50 && done < turns / 2, "some damaged blocks are refused, and some are not");
+    free(good);
+    hlr_close(&one);
+}
+
+int main(int argc, char **argv) {
+    whole();
+    damaged(argc > 1 ? atol(argv[1]) : 2000);
+    return wrong > 0;
+}
