@@ -30,7 +30,7 @@ class Writer(threading.Thread):
     last location that was sent, and the last one that was acknowledged."""
 
     def __init__(self, server, mine):
-        super().__init__()
+        super().__init__(daemon=True)
         self.server, self.mine, self.sent, self.acknowledged, self.wrong = server, mine, {}, {}, None
         self.added = 0
 

@@ -6,6 +6,7 @@ import shutil
 import signal
 import socket
 import subprocess
+import sys
 import tempfile
 import time
 
@@ -135,6 +136,9 @@ class Server(Process):
         """One for all rows of all keys."""
         with self.connection() as one:
             return one("DEBUG", "DIGEST")
+
+
+signal.signal(signal.SIGTERM, lambda *_: sys.exit(1))
 
 
 @atexit.register
