@@ -1,16 +1,52 @@
 #!/usr/bin/env bash
 # All tests: `rt ci` (every proof, the must-fail edits, the tests), then the built program from outside.
 #
-#   ./test.sh            both; the last line is 'N passed, N failed'
-#   ./test.sh program    the built programs and the library alone, as they stand in crates/*/out
+#   ./test.sh [--no-install]            both; the last line is 'N passed, N failed'
+#   ./test.sh [--no-install] program    the built programs and the library alone, as they stand in crates/*/out
 #
-# The second takes four minutes at most. Its parts are scripts of tests/outside; each can be run alone.
+# The second takes five minutes at most. Its parts are scripts of tests/outside; each can be run alone.
+#
+# Where root runs it and apt-get is there, it first installs from Debian's packages those of the tools below that are missing,
+# and says which; --no-install leaves that out. A part that lacks a tool says what it skips for that reason, and the last line
+# is then 'N skipped, N passed, N failed'.
 . "$(dirname "$0")/tests/outside/lib.sh" || exit 1
 
+# The packages of Debian 12 with what the parts call, beside what each Debian has.
+packages=(binutils chromium clang g++ gcc graphviz libhiredis-dev man-db openssl pkg-config python3 redis-sentinel redis-server redis-tools
+  shellcheck valgrind)
+
+# installed: installs the packages that are missing.
+installed() {
+  local package missing=()
+  for package in "${packages[@]}"; do
+    # shellcheck disable=SC2016
+    [ "$(dpkg-query -W -f='${db:Status-Status}' "$package" 2> /dev/null)" = installed ] || missing+=("$package")
+  done
+  [ "${#missing[@]}" != 0 ] || return 0
+  echo "installs from Debian's packages (--no-install leaves it): ${missing[*]}"
+  export DEBIAN_FRONTEND=noninteractive
+  if apt-get update -q > "$room/apt" 2>&1 && apt-get install -q -y --no-install-recommends "${missing[@]}" >> "$room/apt" 2>&1; then
+    pass 'the packages are installed'
+  else
+    fail "apt-get installs ${missing[*]}"
+    tail -n 5 "$room/apt"
+  fi
+}
+
+install=yes
+if [ "${1:-}" = --no-install ]; then
+  install=no
+  shift
+fi
+if [ "$#" -gt 1 ] || [ "${1:-program}" != program ]; then
+  echo "test.sh: it takes --no-install and the word program, and not '$*'" >&2
+  exit 1
+fi
+if [ "$install" = yes ] && [ "$(id -u)" = 0 ] && command -v apt-get > /dev/null; then installed; fi
 if [ "${1:-all}" = all ]; then
   counted rt ci
   crates/hlr_c/archive.sh > "$room/out" || fail 'crates/hlr_c/archive.sh'
 fi
-parts examples readme docs options streams bytes waiting memory threads library dist python live
+parts examples readme docs options streams bytes waiting memory threads library dist redis python live shell
 counted tests/refuse_memory.sh
 finish

@@ -1,8 +1,10 @@
 # shellcheck shell=bash
 # What the parts of test.sh and refuse_memory.sh share. A part is a script of this folder: it reads this file, tests, and
-# calls `finish`, whose last line is 'N passed, N failed'. It can be run alone.
+# calls `finish`, whose last line is 'N passed, N failed', or 'N skipped, N passed, N failed' where something was skipped. It
+# can be run alone.
 #
-# Where what a part tests isn't built, the part fails, or is skipped where HLR_PARTIAL is 1.
+# Where what a part tests isn't built, the part fails, or is skipped where HLR_PARTIAL is 1. Where a tool is missing, what it
+# is for is skipped: a line says so, and it counts as skipped and not as passed.
 set -u
 cd "$(dirname "${BASH_SOURCE[0]}")/../.." || exit 1
 hlr=$PWD/crates/hlr/out/hlr
@@ -10,6 +12,7 @@ room=$(mktemp -d)
 trap 'rm -rf "$room"' EXIT
 passed=0
 failed=0
+skipped=0
 
 pass() { passed=$((passed + 1)); }
 
@@ -59,15 +62,21 @@ ends() {
   same "$1: standard error" "$room/err" "$room/want"
 }
 
+# skip MISSING [WHAT]: counts something as skipped, and says why.
+skip() {
+  skipped=$((skipped + 1))
+  echo "skipped, since there is no $1${2:+: $2}"
+}
+
 # tool NAME WHAT: whether a tool is there; what is skipped without it is told.
 tool() {
-  command -v "$1" > /dev/null || { echo "skipped, since there is no $1: $2"; return 1; }
+  command -v "$1" > /dev/null || { skip "$1" "$2"; return 1; }
 }
 
 # built FILE HOW: whether a file is there.
 built() {
   [ ! -e "$1" ] || return 0
-  if [ "${HLR_PARTIAL:-0}" = 1 ]; then echo "skipped, since there is no $1"; else fail "there is no $1: $2"; fi
+  if [ "${HLR_PARTIAL:-0}" = 1 ]; then skip "$1"; else fail "there is no $1: $2"; fi
   return 1
 }
 
@@ -79,19 +88,19 @@ tests_built() { built "crates/$1/out/$1_tests" "run rt test in crates/$1"; }
 # bytes_of FILE: how many there are, 0 where there is no file.
 bytes_of() { if [ -f "$1" ]; then wc -c < "$1"; else echo 0; fi; }
 
-# counted COMMAND ..: a command that ends with 'N passed, M failed', which are added to these.
+# counted COMMAND ..: a command that ends with 'N passed, M failed', or with 'K skipped, ' before that, which are added to
+# these.
 counted() {
   local last
   "$@" | tee "$room/counted"
   last=$(tail -n 1 "$room/counted")
-  case $last in
-    *' passed, '*' failed')
-      passed=$((passed + ${last%% *}))
-      last=${last#*passed, }
-      failed=$((failed + ${last%% *}))
-      ;;
-    *) fail "$* ended with '$last'" ;;
-  esac
+  if [[ $last =~ ^(([0-9]+)' skipped, ')?([0-9]+)' passed, '([0-9]+)' failed'$ ]]; then
+    skipped=$((skipped + ${BASH_REMATCH[2]:-0}))
+    passed=$((passed + BASH_REMATCH[3]))
+    failed=$((failed + BASH_REMATCH[4]))
+  else
+    fail "$* ended with '$last'"
+  fi
 }
 
 # parts NAME ..: runs parts, one after another, and adds what each of them counts.
@@ -104,6 +113,7 @@ parts() {
 }
 
 finish() {
+  if [ "$skipped" != 0 ]; then printf '%s skipped, ' "$skipped"; fi
   echo "$passed passed, $failed failed"
   [ "$failed" = 0 ]
   exit

@@ -139,7 +139,7 @@ class Sentinel(Process):
         path = os.path.join(self.folder, "conf")
         with open(path, "w") as conf:
             conf.write(f"port {self.port}\nbind 127.0.0.1\ndir {self.folder}\nlogfile {self.folder}/log\n"
-                       f"sentinel monitor main 127.0.0.1 {master.port} 2\nsentinel down-after-milliseconds main 700\n"
+                       f"sentinel monitor main 127.0.0.1 {master.port} 2\nsentinel down-after-milliseconds main 1500\n"
                        "sentinel failover-timeout main 4000\n")
         self.run(["redis-sentinel", path])
 
@@ -160,6 +160,18 @@ def write(sentinel, location):
         return False
 
 
+def master_by(sentinel, servers):
+    """The server that a Sentinel tells as the master."""
+    port = int(sentinel("get-master-addr-by-name", "main")[1])
+    return next(one for one in servers if one.port == port)
+
+
+def follow(sentinel, servers):
+    """All servers but one follow that one. A machine that is busy may have made Sentinels choose more than once."""
+    master = master_by(sentinel, servers)
+    return all(is_synced(one) and one.info("replication").get("master_port") == master.port for one in servers if one is not master)
+
+
 def failover(first, replicas):
     """The master is killed: a replica takes its place, and the old master comes back as a replica."""
     sentinels = [Sentinel(number, first) for number in range(3)]
@@ -171,17 +183,18 @@ def failover(first, replicas):
     first.kill()
     took = wait_for("a write is taken again", lambda: write(sentinels[1], 12))
     print(f"failover: writes again {took:.1f} s after kill -9", flush=True)
-    port = int(sentinels[1]("get-master-addr-by-name", "main")[1])
-    now = next(one for one in replicas if one.port == port)
+    now = master_by(sentinels[1], replicas)
     with now.connection() as one:
         same("the write is there", one("HLR.GSD", "hlr", 1)[-1], 12)
         one.many(("HLR.UL", "hlr", number, number) for number in range(2, 500))
     first.start()
+    servers = [first, *replicas]
     wait_for("the old master is a replica", lambda: is_synced(first))
-    others = [one for one in (first, *replicas) if one is not now]
-    wait_for("both replicas follow the new master", lambda: all(one.info("replication").get("master_port") == port and is_synced(one) for one in others))
-    wait_for("rows are alike", lambda: len({one.digest() for one in (now, *others)}) == 1)
-    alike(now, others)
+    wait_for("two replicas follow one master", lambda: follow(sentinels[1], servers))
+    wait_for("rows are alike", lambda: len({one.digest() for one in servers}) == 1)
+    now = master_by(sentinels[1], servers)
+    check("the master is another one", now is not first)
+    alike(now, [one for one in servers if one is not now])
     for one in sentinels:
         one.stop()
 

@@ -1,0 +1,72 @@
+#!/usr/bin/env bash
+# The Redis module hlr.so: blocks of rows without a server, and then with real servers of Redis all that redis/ promises.
+#
+# The servers listen on loopback, on free ports and with folders of their own, and end with the test, by their process ids. No
+# server of the machine is used. The tests run in two rows side by side and take a minute and a half on four processors.
+. "$(dirname "$0")/lib.sh" || exit 1
+. tests/outside/c_lib.sh || exit 1
+here=tests/outside/redis
+export PYTHONDONTWRITEBYTECODE=1
+
+# module NAME COMPILER WORD ..: builds the module.
+module() {
+  CC=$2 redis/build.sh "$room/$1" "${@:3}" "$archive" "$(kit_archive)" > "$room/out" 2>&1 && [ ! -s "$room/out" ] && return
+  fail "$1 isn't built by $2"
+  cat "$room/out"
+  return 1
+}
+
+# What makes of the module one that can refuse memory.
+refusing=(-DTRY_ALLOC=refusing_alloc -DRedisModule_OnLoad=load_module "$here/refuse.c")
+sanitizers=(-g -fsanitize=address -fsanitize=undefined -fno-sanitize-recover=undefined)
+
+# compilers: the module by gcc and by clang, of which it gives out one name and asks for what a C library has.
+compilers() {
+  local compiler
+  for compiler in gcc clang; do
+    tool "$compiler" "the module by it" || continue
+    module "$compiler.so" "$compiler" -Wl,-z,defs || continue
+    is "names of the module by $compiler" "$(nm -D --defined-only "$room/$compiler.so" | awk '{ print $3 }')" RedisModule_OnLoad
+    is "malloc in the module by $compiler" "$(nm -D -u "$room/$compiler.so" | awk '$2 ~ /^(malloc|calloc|realloc|free)(@|$)/ { print $2 }')" ''
+  done
+}
+
+# blocks: rows as bytes, under sanitizers and valgrind.
+blocks() {
+  compiled blocks -std=gnu11 -Wconversion "${sanitizers[@]}" -Iredis -Icrates/hlr_c "$here/blocks.c" redis/{rows,walk}.c "$archive" "$(kit_archive)" || return
+  ended 'blocks of rows' /dev/null "$room/blocks" 20000
+  tool valgrind 'blocks of rows under it' || return
+  compiled blocks -std=gnu11 -g -Iredis -Icrates/hlr_c "$here/blocks.c" redis/{rows,walk}.c "$archive" "$(kit_archive)" || return
+  ended 'blocks of rows under valgrind' /dev/null valgrind -q --leak-check=full --error-exitcode=9 "$room/blocks" 300
+}
+
+# row NAME=MODULE ..: runs these tests one after another; what they say goes to files.
+row() {
+  local one
+  for one in "$@"; do timeout -k 10 170 python3 -W error "$here/${one%%=*}.py" "$room/${one#*=}" > "$room/${one%%=*}.said" 2>&1; done
+}
+
+# servers: all tests with servers, in two rows.
+servers() {
+  local name first=(replica=gcc.so cluster=gcc.so kept=gcc.so rights=gcc.so) second=(commands=clang.so memory=refusing.so crash=gcc.so hostile=sanitized.so)
+  [ -f "$room/clang.so" ] || cp "$room/gcc.so" "$room/clang.so"
+  HLR_PRELOAD=$(gcc -print-file-name=libasan.so):$(gcc -print-file-name=libubsan.so)
+  export HLR_PRELOAD
+  row "${first[@]}" &
+  row "${second[@]}"
+  wait
+  for name in "${first[@]}" "${second[@]}"; do
+    echo "${name%%=*}:"
+    counted cat "$room/${name%%=*}.said"
+  done
+}
+
+tool gcc 'the module hlr.so' || finish
+archive_built || finish
+compilers
+blocks
+for needed in redis-server redis-sentinel redis-cli openssl python3; do tool "$needed" 'the module hlr.so in servers' || finish; done
+module refusing.so gcc "${refusing[@]}" || finish
+module sanitized.so gcc "${refusing[@]}" "${sanitizers[@]}" || finish
+[ ! -f "$room/gcc.so" ] || servers
+finish
