@@ -4,8 +4,9 @@
 #   ./dist.sh                                     makes dist/ over crates/hlr/out/hlr and crates/hlr_c/out/libhlr_c.a
 #   PREFIX=/usr/local DESTDIR= ./dist.sh install  puts that tree below DESTDIR, to be used below PREFIX
 #
-# The tree works wherever it stands: bin/hlr, lib/libhlr.a, lib/libhlr.so.1, lib/pkgconfig/hlr.pc, include/hlr.h,
-# include/hlr.hpp, share/man/man1/hlr.1, the Python package in lib/python3/dist-packages, examples in share/doc/hlr.
+# The tree works wherever it stands: bin/hlr, lib/libhlr.a, lib/libhlr.so.1, lib/redis/modules/hlr.so, lib/pkgconfig/hlr.pc,
+# include/hlr.h, include/hlr.hpp, share/man/man1/hlr.1, the Python package in lib/python3/dist-packages, examples in
+# share/doc/hlr. The Redis module is built without Redis.
 # Both packages come out byte for byte the same whenever they are made of the same files: their times are
 # SOURCE_DATE_EPOCH, or else that of the last commit. It needs rt, gcc and binutils, and for the
 # Debian package dpkg-deb. CC may name another compiler.
@@ -25,16 +26,18 @@ library=crates/hlr_c/out/libhlr_c.a
 header=crates/hlr_c/hlr.h
 soname=libhlr.so.1
 package=lib/python3/dist-packages/hlr
+module=lib/redis/modules/hlr.so
 examples=share/doc/hlr/examples
 version=$(sed -n 's/^const VERSION: &str = "\(.*\)";$/\1/p' crates/hlr/src/options.rt)
 [ -n "$version" ] || stop 'crates/hlr/src/options.rt tells no VERSION'
 
 # files TO PREFIX: copies the tree to a folder, for use below PREFIX.
 files() {
-  install -d "$1/bin" "$1/include" "$1/lib/pkgconfig" "$1/share/man/man1" "$1/$package" "$1/$examples/live"
+  install -d "$1/bin" "$1/include" "$1/lib/pkgconfig" "$1/${module%/*}" "$1/share/man/man1" "$1/$package" "$1/$examples/live"
   install -m 755 "$dist/bin/hlr" "$1/bin/"
   install -m 644 "$dist/include/hlr.h" "$dist/include/hlr.hpp" "$1/include/"
   install -m 644 "$dist/lib/libhlr.a" "$dist/lib/$soname" "$1/lib/"
+  install -m 755 "$dist/$module" "$1/$module"
   ln -sf "$soname" "$1/lib/libhlr.so"
   install -m 644 "$dist/share/man/man1/hlr.1" "$1/share/man/man1/"
   install -m 644 "$dist/$package"/*.py "$dist/$package/built.txt" "$1/$package/"
@@ -71,8 +74,8 @@ checked() {
   cmp -s "$room/called" "$room/global" || stop "$library hasn't the calls of $header: build it anew"
 }
 
-# linked: makes lib/libhlr.a and lib/libhlr.so.1 of the library and what the kit has for it of malloc and free. In the one
-# object of both, whose code stays as it was built, nothing but the calls is global.
+# linked: makes lib/libhlr.a, lib/libhlr.so.1 and the Redis module of the library and what the kit has for it of malloc and
+# free. In the one object of both, whose code stays as it was built, nothing but the calls is global.
 linked() {
   local kit
   kit=$(dirname "$(rt doc)")
@@ -82,6 +85,8 @@ linked() {
   echo 'HLR_1 { global: hlr_*; local: *; };' > "$room/hlr.map"
   "${CC:-gcc}" -shared -o "$dist/lib/$soname" "$room/hlr.o" -Wl,-soname,"$soname" -Wl,--version-script="$room/hlr.map" \
     -Wl,-z,defs -Wl,-z,relro -Wl,-z,now -Wl,-z,noexecstack -Wl,--build-id=none
+  redis/build.sh "$dist/$module" "$room/hlr.o" -Wl,-z,defs
+  chmod 755 "$dist/$module" # Redis loads no module that isn't executable
 }
 
 # built: prints what the shared library was built from.
@@ -95,7 +100,8 @@ built() {
 # tree: fills dist/ but for the packages.
 tree() {
   rm -rf "$dist"
-  install -d "$dist/bin" "$dist/include" "$dist/lib/pkgconfig" "$dist/share/man/man1" "$dist/$package" "$dist/$examples/live"
+  install -d "$dist/bin" "$dist/include" "$dist/lib/pkgconfig" "$dist/${module%/*}" "$dist/share/man/man1" "$dist/$package" \
+    "$dist/$examples/live"
   install -m 755 "$program" "$dist/bin/hlr"
   install -m 644 "$header" crates/hlr_c/hlr.hpp "$dist/include/"
   linked
@@ -124,12 +130,12 @@ package() {
   files "$root/usr" /usr
   gzip -9n "$root/usr/share/man/man1/hlr.1"
   bytes=$(find "$root" -type f -printf '%s\n' | awk '{ sum += $1 } END { print int((sum + 1023) / 1024) }')
-  libc=$(readelf -VW "$dist/bin/hlr" "$dist/lib/$soname" | grep -o 'GLIBC_[0-9][0-9.]*' | sed 's/GLIBC_//' | sort -uV | tail -n 1)
+  libc=$(readelf -VW "$dist/bin/hlr" "$dist/lib/$soname" "$dist/$module" | grep -o 'GLIBC_[0-9][0-9.]*' | sed 's/GLIBC_//' | sort -uV | tail -n 1)
   install -d "$root/DEBIAN"
   printf '%s\n' 'Package: hlr' "Version: $version" 'Architecture: amd64' 'Maintainer: nobody <nobody@localhost>' \
-    "Installed-Size: $bytes" "Depends: libc6 (>= $libc)" 'Suggests: python3' 'Section: database' 'Priority: optional' \
+    "Installed-Size: $bytes" "Depends: libc6 (>= $libc)" 'Suggests: python3, redis-server' 'Section: database' 'Priority: optional' \
     'Description: home location register with live counts' \
-    ' The program hlr, and the register as a library for C, C++ and Python.' > "$root/DEBIAN/control"
+    ' The program hlr, and the register as a library for C, C++ and Python, and as' ' a module for Redis.' > "$root/DEBIAN/control"
   echo 'activate-noawait ldconfig' > "$root/DEBIAN/triggers"
   find "$root" -exec touch -h -d "@$epoch" {} +
   SOURCE_DATE_EPOCH=$epoch dpkg-deb --root-owner-group -Zgzip -z9 --build "$root" "$dist/hlr_${version}_amd64.deb" > /dev/null

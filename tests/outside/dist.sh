@@ -5,6 +5,7 @@
 . tests/outside/c_lib.sh || exit 1
 in_library=tests/outside/library
 header=crates/hlr_c/hlr.h
+module=lib/redis/modules/hlr.so
 version=$(sed -n 's/^const VERSION: &str = "\(.*\)";$/\1/p' crates/hlr/src/options.rt)
 unset SOURCE_DATE_EPOCH
 
@@ -47,6 +48,8 @@ names() {
   same 'names that libhlr.so.1 exports' "$room/exported" "$room/versioned"
   is 'names that libhlr.a asks for' "$(nm -u "$one/libhlr.a" | awk 'NF == 2 { print $2 }' | sort | paste -sd ' ')" \
     'free malloc memcpy memmove memset realloc'
+  is 'the name that the Redis module exports' "$(nm -D --defined-only "$room/one/dist/$module" | awk '{ print $3 }')" RedisModule_OnLoad
+  is 'what the Redis module asks for of malloc' "$(nm -D -u "$room/one/dist/$module" | grep -cE ' (malloc|calloc|realloc|free)(@|$)')" 0
   is 'soname' "$(readelf -dW "$one/libhlr.so.1" | sed -n 's/.*(SONAME).*\[\(.*\)\]$/\1/p')" libhlr.so.1
   grep -o 'hlr_[a-z_]*(' crates/hlr_c/hlr.hpp | tr -d '(' | sort -u > "$room/wrapped"
   same 'calls of hlr.hpp' "$room/wrapped" "$room/called"
@@ -58,7 +61,7 @@ names() {
 # installed: to a folder, and below another one for use elsewhere.
 installed() {
   local python=lib/python3/dist-packages/hlr files
-  files=$(printf '%s\n' bin/hlr include/hlr.h include/hlr.hpp lib/libhlr.a lib/libhlr.so lib/libhlr.so.1 lib/pkgconfig/hlr.pc \
+  files=$(printf '%s\n' bin/hlr include/hlr.h include/hlr.hpp lib/libhlr.a lib/libhlr.so lib/libhlr.so.1 lib/pkgconfig/hlr.pc $module \
     python/hlr/*.py $python/built.txt $python/libhlr.so.1 share/man/man1/hlr.1 examples/day.{c,cc,py} \
     examples/first.{c,cc,py} examples/parts.{c,py} examples/save.c examples/backup.py examples/*.csv \
     examples/client.{py,sh} examples/live/*.* |
@@ -81,6 +84,7 @@ clients() {
   local tree=$1 words archived
   export PKG_CONFIG_PATH=$tree/lib/pkgconfig
   is "$tree: version of hlr.pc" "$(pkg-config --modversion hlr)" "$version"
+  in_redis "$tree"
   read -ra words < <(pkg-config --cflags --libs hlr)
   in_python "$tree"
   archived=('-Wl,-Bstatic' "${words[@]}" '-Wl,-Bdynamic')
@@ -135,6 +139,19 @@ lines_of_page() {
   same 'the lines for the tar ball' "$room/out" "$room/want"
 }
 
+# in_redis TREE: a server loads the module of a tree.
+in_redis() {
+  local socket=$room/redis.sock server
+  tool redis-server "the Redis module of the tree $1" && tool redis-cli "the Redis module of the tree $1" || return
+  redis-server --port 0 --unixsocket "$socket" --save '' --dir "$room" --loadmodule "$1/$module" > "$room/out" 2>&1 &
+  server=$!
+  for _ in {1..200}; do [ ! -S "$socket" ] || break; sleep 0.05; done
+  is "$1: a register in Redis" "$(redis-cli -s "$socket" HLR.CREATE hlr; redis-cli -s "$socket" HLR.INFO hlr | head -n 2 | paste -sd ' ')" \
+    $'OK\nsubscribers 0'
+  kill "$server"
+  wait "$server"
+}
+
 # in_cpp NAME WORD ..: g++ with these words makes $room/day of the day in C++.
 in_cpp() {
   g++ -std=c++17 -O2 -Wall -Wextra -Wpedantic -Wconversion -Werror -fno-exceptions "$in_library/day.cc" "${@:2}" -o "$room/day" ||
@@ -144,7 +161,8 @@ in_cpp() {
 # The Debian package has what is installed below /usr, with the manual page packed.
 packaged() {
   local root=$room/unpacked file=$room/one/dist/$deb
-  is 'the Debian package' "$(dpkg-deb -f "$file" Package Version Architecture)" $'Package: hlr\nVersion: '"$version"$'\nArchitecture: amd64'
+  is 'the Debian package' "$(dpkg-deb -f "$file" Package Version Architecture Suggests)" \
+    $'Package: hlr\nVersion: '"$version"$'\nArchitecture: amd64\nSuggests: python3, redis-server'
   dpkg-deb -x "$file" "$root"
   gunzip "$root/usr/share/man/man1/hlr.1.gz"
   PREFIX=/usr DESTDIR=$room/usr "$room/one/dist.sh" install

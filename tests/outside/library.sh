@@ -92,6 +92,12 @@ lent() {
   fi
 }
 
+# Calls that read take and give back no memory, here and in a forked child, nor do those that change a row in place.
+no_memory() {
+  client no_memory -D_GNU_SOURCE -Wconversion "$in_library/no_memory.c" -Wl,--wrap=malloc,--wrap=realloc,--wrap=free || return
+  ended 'calls that take no memory' /dev/null "$room/no_memory"
+}
+
 # A register is saved as records, which the client itself and the program load again: each record is as it was.
 saved() {
   tool python3 'a register that is saved' || return
@@ -125,6 +131,7 @@ days
 examples
 clients
 lent
+no_memory
 saved
 python
 finish
