@@ -298,7 +298,7 @@ COMMAND(scan) {
     redis.ReplyWithArray(ctx, 2);
     redis.ReplyWithLongLong(ctx, (long long)behind);
     redis.ReplyWithArray(ctx, (long)count);
-    walk_begin(&walk, &opened.store->handle, from);
+    walk_begin(&walk, &opened.store->handle, from, count < PAGE_ROWS / 4 ? 4 * (size_t)count + 4 : PAGE_ROWS);
     for (; count > 0; count--) reply_rows(ctx, &walk, walk_subscriber(&walk));
     redis.CloseKey(opened.key);
     return REDIS_OK;

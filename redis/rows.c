@@ -27,14 +27,17 @@
 #define ACTIVE(kinds) ((kinds) >> 8 & 15)
 #define STARTS(kinds) ((kinds) >> 12)
 
-static inline uint8_t *put(uint8_t *to, uint64_t number, int bytes) {
-    for (int place = 0; place < bytes; place++) to[place] = (uint8_t)(number >> 8 * place);
+/* The lowest bytes of a number are those that lie first. */
+_Static_assert(__BYTE_ORDER__ == __ORDER_LITTLE_ENDIAN__, "numbers are copied as they lie in memory");
+
+static inline uint8_t *put(uint8_t *to, uint64_t number, size_t bytes) {
+    memcpy(to, &number, bytes);
     return to + bytes;
 }
 
-static inline uint64_t get(const uint8_t *from, int bytes) {
+static inline uint64_t get(const uint8_t *from, size_t bytes) {
     uint64_t number = 0;
-    for (int place = 0; place < bytes; place++) number |= (uint64_t)from[place] << 8 * place;
+    memcpy(&number, from, bytes);
     return number;
 }
 
@@ -89,10 +92,18 @@ size_t block_of_rows(struct walk *walk, uint8_t block[BLOCK_BYTES]) {
 
 /* ---- bytes to rows: a pass over the block for each table, since rows of one tree are added fastest together ---- */
 
-/* How many bytes a subscriber has. */
-static size_t length_of(uint64_t kinds) {
-    return (size_t)(HEAD + ACCESS * __builtin_popcountll(ACCESSES(kinds)) + FACILITY * __builtin_popcountll(FACILITIES(kinds)) +
-                    FORWARDING * __builtin_popcountll(STARTS(kinds)));
+/* How many of four bits are set. */
+static inline size_t ones(uint64_t bits) {
+    static const uint8_t counts[16] = {0, 1, 1, 2, 1, 2, 2, 3, 1, 2, 2, 3, 2, 3, 3, 4};
+    return counts[bits & 15];
+}
+
+/* How many bytes a subscriber has before its facilities, before its forwardings, and in all. */
+static inline size_t before_facilities(uint64_t kinds) { return HEAD + ACCESS * ones(ACCESSES(kinds)); }
+static inline size_t before_forwardings(uint64_t kinds) { return before_facilities(kinds) + FACILITY * ones(FACILITIES(kinds)); }
+static inline size_t length_of(uint64_t kinds) {
+    uint64_t starts = STARTS(kinds);
+    return before_forwardings(kinds) + FORWARDING * (ones(starts) + ones(starts >> 4) + ones(starts >> 8));
 }
 
 /* Only facilities that are there are active or have forwardings. */
@@ -147,7 +158,7 @@ static uint8_t add_accesses(hlr_part *part, const uint8_t *block, const uint8_t 
 static uint8_t add_facilities(hlr_part *part, const uint8_t *block, const uint8_t *end) {
     for (uint64_t kinds; block < end; block += length_of(kinds)) {
         kinds = get(block + KINDS, 3);
-        const uint8_t *at = block + HEAD + ACCESS * __builtin_popcountll(ACCESSES(kinds));
+        const uint8_t *at = block + before_facilities(kinds);
         for (uint64_t type = 1; type <= 4; type++) {
             if (!(FACILITIES(kinds) >> (type - 1) & 1)) continue;
             hlr_facility row = {.s_id = get(block, 4), .sf_type = type, .is_active = ACTIVE(kinds) >> (type - 1) & 1, .error_cntrl = at[0], .data_a = at[1]};
@@ -163,7 +174,7 @@ static uint8_t add_facilities(hlr_part *part, const uint8_t *block, const uint8_
 static uint8_t add_forwardings(hlr_part *part, const uint8_t *block, const uint8_t *end) {
     for (uint64_t kinds; block < end; block += length_of(kinds)) {
         kinds = get(block + KINDS, 3);
-        const uint8_t *at = block + length_of(kinds & 0xfff);
+        const uint8_t *at = block + before_forwardings(kinds);
         for (uint64_t start = 0; start < 12; start++) {
             if (!(STARTS(kinds) >> start & 1)) continue;
             uint8_t code = hlr_part_insert_forwarding(part, get(block, 4), 1 + start / 3, start % 3 * 8, at[0], get(at + 1, 7));

@@ -6,8 +6,8 @@
 
 #include "hlr.h"
 
-/* How many rows of a table are read by one call. */
-#define PAGE_ROWS 64
+/* How many rows of a table one call reads at most. More rows at a time are faster, up to some hundred. */
+#define PAGE_ROWS 256
 
 /* How far a walk has come in the page of a table: the place of the next row, how many rows the page has, and whether the
  * table has none behind it. */
@@ -19,6 +19,7 @@ struct page {
 /* A walk over the rows of a register, subscriber by subscriber. No call changes the register meanwhile. */
 struct walk {
     hlr *handle;
+    size_t room; /* how many rows a page has in this walk */
     struct page of_subscribers, of_accesses, of_facilities, of_forwardings;
     hlr_subscriber subscribers[PAGE_ROWS];
     hlr_access accesses[PAGE_ROWS];
@@ -26,8 +27,9 @@ struct walk {
     hlr_forwarding_row forwardings[PAGE_ROWS];
 };
 
-/* Begins with the first subscriber whose s_id isn't below this one. It takes no memory. */
-void walk_begin(struct walk *walk, hlr *handle, uint64_t s_id);
+/* Begins with the first subscriber whose s_id isn't below this one, and reads so many rows at a time, 1..=PAGE_ROWS. It
+ * takes no memory. */
+void walk_begin(struct walk *walk, hlr *handle, uint64_t s_id, size_t room);
 
 /* The next subscriber, null at the end. Before it is asked for, all rows of the last one were taken. */
 const hlr_subscriber *walk_subscriber(struct walk *walk);

@@ -64,7 +64,7 @@ static void type_save(redis_io *io, void *value) {
     size_t length;
     uint8_t *block = redis.Alloc(BLOCK_BYTES);
     redis.SaveUnsigned(io, width_of(store));
-    walk_begin(&walk, &store->handle, 0);
+    walk_begin(&walk, &store->handle, 0, PAGE_ROWS);
     do {
         length = block_of_rows(&walk, block);
         redis.SaveStringBuffer(io, (const char *)block, length);
@@ -79,7 +79,7 @@ static void type_rewrite(redis_io *io, redis_string *key, void *value) {
     size_t length;
     uint8_t *block = redis.Alloc(BLOCK_BYTES);
     redis.EmitAOF(io, "HLR.CREATE", "scl", key, "ZONE", (long long)width_of(store));
-    walk_begin(&walk, &store->handle, 0);
+    walk_begin(&walk, &store->handle, 0, PAGE_ROWS);
     while ((length = block_of_rows(&walk, block)) > 0) redis.EmitAOF(io, "HLR.LOAD", "sb", key, (const char *)block, length);
     redis.Free(block);
 }
@@ -91,7 +91,7 @@ static void type_digest(redis_digest *digest, void *value) {
     size_t length;
     uint8_t *block = redis.Alloc(BLOCK_BYTES);
     redis.DigestAddStringBuffer(digest, (const char *)&width, sizeof width);
-    walk_begin(&walk, &store->handle, 0);
+    walk_begin(&walk, &store->handle, 0, PAGE_ROWS);
     while ((length = block_of_rows(&walk, block)) > 0) redis.DigestAddStringBuffer(digest, (const char *)block, length);
     redis.DigestEndSequence(digest);
     redis.Free(block);
@@ -149,7 +149,7 @@ static void *type_copy(redis_string *from_key, redis_string *to_key, const void 
     size_t length;
     uint8_t code, *block = redis.Alloc(BLOCK_BYTES);
     struct store *to = store_new(width_of(from), &code);
-    walk_begin(&walk, &from->handle, 0);
+    walk_begin(&walk, &from->handle, 0, PAGE_ROWS);
     while (code == HLR_DONE && (length = block_of_rows(&walk, block)) > 0)
         code = settled(to, rows_of_block(&to->handle, block, length));
     redis.Free(block);

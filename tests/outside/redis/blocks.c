@@ -70,7 +70,7 @@ static size_t copied(hlr *from, hlr *to) {
     struct walk walk;
     uint8_t *block = malloc(BLOCK_BYTES);
     size_t length, sum = 0;
-    walk_begin(&walk, from, 0);
+    walk_begin(&walk, from, 0, PAGE_ROWS);
     while ((length = block_of_rows(&walk, block)) > 0) {
         expect(rows_of_block(to, block, length) == HLR_DONE, "a block is loaded");
         sum += length;
@@ -85,8 +85,8 @@ static int same_rows(hlr *one, hlr *two) {
     uint8_t *left = malloc(BLOCK_BYTES), *right = malloc(BLOCK_BYTES);
     size_t length;
     int is_same;
-    walk_begin(&first, one, 0);
-    walk_begin(&second, two, 0);
+    walk_begin(&first, one, 0, PAGE_ROWS);
+    walk_begin(&second, two, 0, 3);
     do {
         length = block_of_rows(&first, left);
         is_same = block_of_rows(&second, right) == length && memcmp(left, right, length) == 0;
@@ -133,7 +133,7 @@ static void damaged(long turns) {
     uint8_t *good = malloc(BLOCK_BYTES);
     hlr_open(1, 4, &one);
     for (uint64_t s_id = 1; s_id <= ROOM; s_id++) add(&one, s_id, drawn_below(256));
-    walk_begin(&walk, &one, 0);
+    walk_begin(&walk, &one, 0, PAGE_ROWS);
     size_t length = block_of_rows(&walk, good);
     for (long turn = 0; turn < turns; turn++) {
         hlr two = HLR_CLOSED;
