@@ -15,7 +15,7 @@ from servers import PATIENCE, Server, wait_for
 REGISTERS = 12
 SUBSCRIBERS = 500
 CLIENTS = 4
-SLOTS = 1000
+SLOTS = 400
 
 
 def slot_of(key):

@@ -102,8 +102,9 @@ def found(server, writers):
             for s_id, row in zip(s_ids, one.many(("HLR.GSD", "hlr", s_id) for s_id in s_ids)):
                 least, most = writer.acknowledged.get(s_id, 1), writer.sent.get(s_id, 1)
                 count += least - 1
-                if not least <= row[-1] <= most:
-                    lost.append((s_id, least, row[-1], most))
+                place = row[-1] if row else 0
+                if not least <= place <= most:
+                    lost.append((s_id, least, place, most))
             rows = one.many(("HLR.GAD", "hlr", writer.new(turn), 1) for turn in range(1, writer.added + 1))
             lost += [turn for turn, row in enumerate(rows) if not row]
             count += 2 * writer.added
