@@ -11,7 +11,7 @@
 # is then 'N skipped, N passed, N failed'.
 . "$(dirname "$0")/tests/outside/lib.sh" || exit 1
 
-# The packages of Debian 12 with what the parts call, beside what each Debian has.
+# The packages of Debian 12 that have the tools which the parts call. What every Debian system has isn't listed.
 packages=(binutils chromium clang g++ gcc graphviz libhiredis-dev man-db openssl pkg-config python3 redis-sentinel redis-server redis-tools
   shellcheck valgrind)
 

@@ -1,25 +1,28 @@
 /*
  * add.c: HLR.ADD key records [records ..], which adds many rows of any table.
  *
- * The records are those that the program hlr reads and that examples of the library write: sub, acc, fac and icf of
- * docs/RECORDS.md, without quotes, one in each line. So a file of rows is sent as it is (`redis-cli -x HLR.ADD key`). One
- * word has many rows, because Redis spends more time on the words of a command than the register does on a row.
+ * The records are sub, acc, fac and icf of docs/RECORDS.md without quotes, one on each line: what the program hlr
+ * reads, and what examples/library/save.c writes. So you can send a file of rows as it is, with `redis-cli -x HLR.ADD
+ * key`. A word of the command holds many rows, because Redis spends more time on each word than the register spends
+ * on a row.
  *
- * Each row is added or refused by itself, in order, as by a command of its own, and a refused row doesn't keep the others
- * out. The reply says how many were added and how many weren't, and tells of the first refused ones their place and why.
+ * The rows are added in order, and each one is added in whole or refused in whole, as by a command of its own. A
+ * refused row doesn't keep the others out. The reply has the number of rows that were added, the number that were
+ * refused, and a list of the first refused rows with their place and the reason.
  *
- * The command is replicated as it was typed. That is right, because the same rows are refused wherever it is repeated, for
- * a refusal depends on the rows alone, memory being the one exception. So the first row that is refused memory ends the
- * command: all rows from there on count as refused, and what is replicated is the text before that row.
+ * The command is replicated as it was typed. That is right because a refusal depends on the register's rows alone, so
+ * every server that repeats the command refuses the same rows. The one exception is memory. So the first row for
+ * which no memory is left ends the command: that row and all rows behind it count as refused, and only the text
+ * before that row is replicated.
  */
 #include "hlr_redis.h"
 #include <string.h>
 
-/* A code of this file beside those of hlr.h: a line is no record of a row. */
+/* A code that hlr.h doesn't use: the line isn't a record of a row. */
 #define NO_RECORD 200
 
-/* How many refusals the reply tells. */
-#define TOLD 16
+/* How many refusals the reply lists at most. */
+#define LISTED 16
 
 #define MOST_FIELDS 8
 
@@ -31,14 +34,14 @@ struct refusal {
 struct adding {
     hlr *handle;
     uint64_t rows, added;
-    struct refusal refusals[TOLD];
+    struct refusal refusals[LISTED];
     int is_out_of_memory;
-    int word;          /* the word in which memory was refused, */
-    const char *begin; /* where it begins, */
-    size_t before;     /* and how much of it was done */
+    int word;          /* the word of the command in which memory was refused */
+    const char *begin; /* the first byte of that word */
+    size_t before;     /* how many bytes of it come before the refused row */
 };
 
-/* Divides a record at its commas: how many fields it has, MOST_FIELDS + 1 where it has more than that. */
+/* Divides a record at its commas. Returns the number of fields, or MOST_FIELDS + 1 if there are more than that. */
 static int fields_of(struct text line, struct text fields[MOST_FIELDS]) {
     const char *end = line.at + line.length;
     for (int count = 0; count < MOST_FIELDS; count++) {
@@ -76,7 +79,7 @@ static uint8_t add_record(hlr *handle, struct text line) {
     return NO_RECORD;
 }
 
-/* Adds the rows of one word, line by line. Once memory was refused, it only counts them. */
+/* Adds the rows of one word, line by line. Once memory was refused, it only counts the rows. */
 static void add_records(struct adding *adding, int word, struct text text) {
     const char *begin = text.at, *end = text.at + text.length;
     while (text.at < end) {
@@ -85,10 +88,11 @@ static void add_records(struct adding *adding, int word, struct text text) {
         text.at = newline ? newline + 1 : end;
         if (behind > at && behind[-1] == '\r') behind--;
         if (behind == at) continue;
-        uint8_t code = adding->is_out_of_memory ? HLR_MEMORY : add_record(adding->handle, (struct text){at, (size_t)(behind - at)});
+        struct text line = {at, (size_t)(behind - at)};
+        uint8_t code = adding->is_out_of_memory ? HLR_MEMORY : add_record(adding->handle, line);
         uint64_t refused = adding->rows++ - adding->added;
         if (code == HLR_DONE) adding->added++;
-        else if (refused < TOLD) adding->refusals[refused] = (struct refusal){adding->rows, code};
+        else if (refused < LISTED) adding->refusals[refused] = (struct refusal){adding->rows, code};
         if (code != HLR_MEMORY || adding->is_out_of_memory) continue;
         adding->is_out_of_memory = 1;
         adding->word = word;
@@ -98,15 +102,16 @@ static void add_records(struct adding *adding, int word, struct text text) {
 }
 
 static void reply_adding(redis_context *ctx, const struct adding *adding) {
-    uint64_t refused = adding->rows - adding->added, told = refused < TOLD ? refused : TOLD;
+    uint64_t refused = adding->rows - adding->added, listed = refused < LISTED ? refused : LISTED;
     redis.ReplyWithMap(ctx, 3);
     reply_number(ctx, "added", adding->added);
     reply_number(ctx, "refused", refused);
     redis.ReplyWithStringBuffer(ctx, "refusals", 8);
-    redis.ReplyWithArray(ctx, (long)told);
-    for (uint64_t place = 0; place < told; place++) {
+    redis.ReplyWithArray(ctx, (long)listed);
+    for (uint64_t place = 0; place < listed; place++) {
         const struct refusal *one = &adding->refusals[place];
-        const char *why = one->code == NO_RECORD ? "ERR no record sub, acc, fac or icf with its fields" : refusal_text(one->code);
+        const char *no_record = "ERR no record sub, acc, fac or icf with its fields";
+        const char *why = one->code == NO_RECORD ? no_record : refusal_text(one->code);
         redis.ReplyWithArray(ctx, 2);
         redis.ReplyWithLongLong(ctx, (long long)one->row);
         redis.ReplyWithStringBuffer(ctx, why, strlen(why));
@@ -121,8 +126,9 @@ COMMAND(add) {
     settled(opened.store, HLR_DONE);
     if (adding.is_out_of_memory && is_repeated(ctx)) end_server(ctx, "hlr.add", refusal_text(HLR_MEMORY));
     if (adding.added > 0) {
-        if (adding.is_out_of_memory) redis.Replicate(ctx, "HLR.ADD", "svb", argv[1], argv + 2, (size_t)(adding.word - 2), adding.begin, adding.before);
-        else redis.ReplicateVerbatim(ctx);
+        size_t words = (size_t)adding.word - 2;
+        if (!adding.is_out_of_memory) redis.ReplicateVerbatim(ctx);
+        else redis.Replicate(ctx, "HLR.ADD", "svb", argv[1], argv + 2, words, adding.begin, adding.before);
         redis.SignalModifiedKey(ctx, argv[1]);
         redis.NotifyKeyspaceEvent(ctx, REDIS_NOTIFY_MODULE, "hlr.add", argv[1]);
     }

@@ -1,4 +1,4 @@
-/* fields.c: the numbers, digits and letters of commands and records, in the forms of docs/RECORDS.md. */
+/* fields.c: reads the numbers, digits and letters of commands and records, in the forms of docs/RECORDS.md. */
 #include "hlr_redis.h"
 #include <string.h>
 
@@ -23,7 +23,7 @@ void numbers_of(redis_string **words, int count, uint64_t *numbers) {
     for (int place = 0; place < count; place++) numbers[place] = number_of(text_of(words[place]));
 }
 
-/* The value of a hexadecimal digit of either case, 16 of anything else. */
+/* The value of a hexadecimal digit of either case, or 16 for any other character. */
 static unsigned digit_of(char letter) {
     if (letter >= '0' && letter <= '9') return (unsigned)(letter - '0');
     if (letter >= 'a' && letter <= 'f') return (unsigned)(letter - 'a') + 10;
@@ -31,7 +31,7 @@ static unsigned digit_of(char letter) {
     return 16;
 }
 
-/* Ten numbers of one hexadecimal digit each, or of two. A digit of bits that isn't 0 or 1 is refused by the register. */
+/* Reads ten numbers of one or of two hexadecimal digits each. The register refuses bits that aren't 0 or 1. */
 static int digits_of(struct text text, size_t each, uint8_t numbers[10]) {
     if (text.length != 10 * each) return 0;
     for (size_t place = 0; place < 10; place++) {
@@ -49,17 +49,33 @@ static int letters_of(struct text text, uint8_t *letters, size_t count) {
 }
 
 int subscriber_of(const struct text *fields, hlr_subscriber *row) {
-    *row = (hlr_subscriber){.s_id = number_of(fields[0]), .sub_nbr = number_of(fields[1]), .msc_location = number_of(fields[5]), .vlr_location = number_of(fields[6])};
+    *row = (hlr_subscriber){
+        .s_id = number_of(fields[0]),
+        .sub_nbr = number_of(fields[1]),
+        .msc_location = number_of(fields[5]),
+        .vlr_location = number_of(fields[6]),
+    };
     return digits_of(fields[2], 1, row->bits) && digits_of(fields[3], 1, row->hexes) && digits_of(fields[4], 2, row->bytes);
 }
 
 int access_of(const struct text *fields, hlr_access *row) {
-    *row = (hlr_access){.s_id = number_of(fields[0]), .ai_type = number_of(fields[1]), .data1 = number_of(fields[2]), .data2 = number_of(fields[3])};
+    *row = (hlr_access){
+        .s_id = number_of(fields[0]),
+        .ai_type = number_of(fields[1]),
+        .data1 = number_of(fields[2]),
+        .data2 = number_of(fields[3]),
+    };
     return letters_of(fields[4], row->data3, sizeof row->data3) && letters_of(fields[5], row->data4, sizeof row->data4);
 }
 
 int facility_of(const struct text *fields, hlr_facility *row) {
-    *row = (hlr_facility){.s_id = number_of(fields[0]), .sf_type = number_of(fields[1]), .is_active = number_of(fields[2]), .error_cntrl = number_of(fields[3]), .data_a = number_of(fields[4])};
+    *row = (hlr_facility){
+        .s_id = number_of(fields[0]),
+        .sf_type = number_of(fields[1]),
+        .is_active = number_of(fields[2]),
+        .error_cntrl = number_of(fields[3]),
+        .data_a = number_of(fields[4]),
+    };
     return letters_of(fields[5], row->data_b, sizeof row->data_b);
 }
 

@@ -6,19 +6,24 @@
  *     redis-cli HLR.ADDSUB hlr 7 000000000000007 0000000000 0000000000 00000000000000000000 1 268435456
  *     redis-cli HLR.GSD hlr 7
  *
- * A register is the value of a key. Redis brings the network, rights, persistence, replicas, failover and the cluster; the
- * register decides everything about rows. The module only translates between the two: words to numbers, codes to replies.
- * A read of a row that isn't there replies null. A write that is refused replies an error whose first word is the code.
+ * A register is the value of a key. Redis brings the network, rights, persistence, replicas, failover and the
+ * cluster. The register decides everything about rows. The module only translates between the two: words into
+ * numbers, and codes into replies. A read of a row that doesn't exist replies null. A write that is refused replies
+ * an error whose first word is the code.
  *
- * A register has one part, because parts are for threads and Redis runs all commands in one. Its counts are what hlr_views
- * tells as published and as unposted, added up.
+ * A register has one part, because parts are for threads and Redis runs all commands in one thread. Its counts are
+ * the sums of the published and the unposted counts of hlr_views.
  *
- * What hlr.h asks of callers is met so: Redis makes one call at a time on a register, from its main thread; the thread that
- * frees an unlinked register got it through a queue with a lock. A forked child makes calls that read, and the fork came
- * between two commands, so no call was at work. Redis's threads have 4 MB of stack and more.
+ * The rules of hlr.h for callers are kept in this way:
  *
- * memory.c has what registers take of memory, type.c the data type, rows.c and walk.c rows as bytes and in order, fields.c
- * and replies.c numbers and letters in and out, reads.c, writes.c and add.c the commands. This file tells Redis of them.
+ *   - One call at a time works on a register, because Redis runs commands in its main thread. The thread that frees
+ *     an unlinked register receives it through a queue with a lock.
+ *   - A forked child makes only calls that read, and Redis forks between two commands, when no call is at work.
+ *   - A call has 64 KB of stack, because Redis gives its threads 4 MB or more.
+ *
+ * The files: memory.c counts the memory of registers, type.c has the data type, walk.c reads all rows in order,
+ * rows.c turns rows into bytes and back, fields.c reads words, replies.c writes replies, and reads.c, writes.c and
+ * add.c have the commands. This file describes the commands to Redis.
  */
 #include "hlr_redis.h"
 #include <string.h>
@@ -28,12 +33,14 @@
 struct redis_calls redis;
 redis_type *store_type;
 
-/* ---- the commands, as COMMAND INFO and COMMAND DOCS tell them ---- */
+/* ---- the commands, as COMMAND INFO and COMMAND DOCS show them ---- */
 
 #define NUMBER(called) \
     { .name = called, .type = REDIS_INTEGER, .key_spec = -1 }
 #define TEXT(called) \
     { .name = called, .type = REDIS_TEXT, .key_spec = -1 }
+#define NUMBERS(called) \
+    { .name = called, .type = REDIS_INTEGER, .key_spec = -1, .flags = REDIS_MULTIPLE }
 #define TEXTS(called) \
     { .name = called, .type = REDIS_TEXT, .key_spec = -1, .flags = REDIS_MULTIPLE }
 #define WORD(called, typed) \
@@ -54,8 +61,8 @@ static redis_argument count_kinds[] = {WORD("hours", "HOURS"), WORD("areas", "AR
 #define COUNT_KIND \
     { .name = "kind", .type = REDIS_ONE_OF, .key_spec = -1, .flags = REDIS_OPTIONAL, .arguments = count_kinds }
 
-/* What a command may do. One that may need memory is refused once maxmemory is reached; location updates and the like go
- * on, since they need none. */
+/* What a command may do. Commands that may need memory have deny-oom, so Redis refuses them once maxmemory is
+ * reached. Location updates and other changes in place need no memory and keep working. */
 #define READS "readonly fast"
 #define READS_ALL "readonly"
 #define CHANGES "write fast"
@@ -79,40 +86,62 @@ static const struct command {
     redis_argument *arguments;
     const char *summary, *complexity;
 } commands[] = {
-    {"hlr.create", create, GROWS, INSERT_KEY, -2, KEY_AND(OPTION("width", "ZONE")), "Makes an empty register", "O(1)"},
+    {"hlr.create", create, GROWS, INSERT_KEY, -2, KEY_AND(OPTION("width", "ZONE")),
+     "Makes an empty register", "O(1)"},
     {"hlr.addsub", add_subscriber, GROWS, INSERT_KEY, 9,
-     KEY_AND(NUMBER("s_id"), TEXT("sub_nbr"), TEXT("bits"), TEXT("hexes"), TEXT("bytes"), NUMBER("msc_location"), NUMBER("vlr_location")),
+     KEY_AND(NUMBER("s_id"), TEXT("sub_nbr"), TEXT("bits"), TEXT("hexes"), TEXT("bytes"), NUMBER("msc_location"),
+             NUMBER("vlr_location")),
      "Adds a subscriber", ONE_ROW},
     {"hlr.addacc", add_access, GROWS, INSERT_KEY, 8,
-     KEY_AND(NUMBER("s_id"), NUMBER("ai_type"), NUMBER("data1"), NUMBER("data2"), TEXT("data3"), TEXT("data4")), "Adds an access of a subscriber", ONE_ROW},
+     KEY_AND(NUMBER("s_id"), NUMBER("ai_type"), NUMBER("data1"), NUMBER("data2"), TEXT("data3"), TEXT("data4")),
+     "Adds an access of a subscriber", ONE_ROW},
     {"hlr.addfac", add_facility, GROWS, INSERT_KEY, 8,
-     KEY_AND(NUMBER("s_id"), NUMBER("sf_type"), NUMBER("is_active"), NUMBER("error_cntrl"), NUMBER("data_a"), TEXT("data_b")),
+     KEY_AND(NUMBER("s_id"), NUMBER("sf_type"), NUMBER("is_active"), NUMBER("error_cntrl"), NUMBER("data_a"),
+             TEXT("data_b")),
      "Adds a facility of a subscriber", ONE_ROW},
-    {"hlr.add", add, GROWS_MUCH, INSERT_KEY, -3, KEY_AND(TEXTS("records")), "Adds many rows, each one or not at all", "O(K log N), where K is how many rows are added"},
+    {"hlr.add", add, GROWS_MUCH, INSERT_KEY, -3, KEY_AND(TEXTS("records")),
+     "Adds many rows, each in whole or not at all", "O(K log N), where K is how many rows are added"},
     {"hlr.gsd", get_subscriber, READS, READ_KEY, 3, KEY_AND(NUMBER("s_id")), "Reads a subscriber", ONE_ROW},
     {"hlr.gnd", get_destination, READS, READ_KEY, 6,
-     KEY_AND(NUMBER("s_id"), NUMBER("sf_type"), NUMBER("start_time"), NUMBER("end_time")), "Reads the numbers that an active facility forwards to", ONE_ROW},
-    {"hlr.gad", get_access, READS, READ_KEY, 4, KEY_AND(NUMBER("s_id"), NUMBER("ai_type")), "Reads an access", ONE_ROW},
-    {"hlr.gfd", get_facility, READS, READ_KEY, 4, KEY_AND(NUMBER("s_id"), NUMBER("sf_type")), "Reads a facility", ONE_ROW},
-    {"hlr.gcf", get_forwarding, READS, READ_KEY, 5, KEY_AND(NUMBER("s_id"), NUMBER("sf_type"), NUMBER("start_time")), "Reads a forwarding", ONE_ROW},
-    {"hlr.find", find, READS, READ_KEY, 3, KEY_AND(TEXT("sub_nbr")), "Finds the subscriber who has a number", ONE_ROW},
+     KEY_AND(NUMBER("s_id"), NUMBER("sf_type"), NUMBER("start_time"), NUMBER("end_time")),
+     "Reads the numbers that an active facility forwards to", ONE_ROW},
+    {"hlr.gad", get_access, READS, READ_KEY, 4, KEY_AND(NUMBER("s_id"), NUMBER("ai_type")),
+     "Reads an access", ONE_ROW},
+    {"hlr.gfd", get_facility, READS, READ_KEY, 4, KEY_AND(NUMBER("s_id"), NUMBER("sf_type")),
+     "Reads a facility", ONE_ROW},
+    {"hlr.gcf", get_forwarding, READS, READ_KEY, 5, KEY_AND(NUMBER("s_id"), NUMBER("sf_type"), NUMBER("start_time")),
+     "Reads a forwarding", ONE_ROW},
+    {"hlr.find", find, READS, READ_KEY, 3, KEY_AND(TEXT("sub_nbr")),
+     "Finds the subscriber who has a number", ONE_ROW},
     {"hlr.usd", update_subscriber, CHANGES, UPDATE_KEY, 6,
-     KEY_AND(NUMBER("s_id"), NUMBER("sf_type"), NUMBER("bit_1"), NUMBER("data_a")), "Sets bit_1 of a subscriber and data_a of a facility, or neither", ONE_ROW},
-    {"hlr.ul", update_location, CHANGES, UPDATE_KEY, 4, KEY_AND(TEXT("sub_nbr"), NUMBER("vlr_location")), "Sets the location of the subscriber who has a number", ONE_ROW},
+     KEY_AND(NUMBER("s_id"), NUMBER("sf_type"), NUMBER("bit_1"), NUMBER("data_a")),
+     "Sets bit_1 of a subscriber and data_a of a facility, or neither", ONE_ROW},
+    {"hlr.ul", update_location, CHANGES, UPDATE_KEY, 4, KEY_AND(TEXT("sub_nbr"), NUMBER("vlr_location")),
+     "Sets the location of the subscriber who has a number", ONE_ROW},
     {"hlr.icf", insert_forwarding, GROWS, INSERT_KEY, 7,
-     KEY_AND(TEXT("sub_nbr"), NUMBER("sf_type"), NUMBER("start_time"), NUMBER("end_time"), TEXT("numberx")), "Adds a forwarding", ONE_ROW},
-    {"hlr.dcf", delete_forwarding, CHANGES, DELETE_KEY, 5, KEY_AND(TEXT("sub_nbr"), NUMBER("sf_type"), NUMBER("start_time")), "Removes a forwarding", ONE_ROW},
-    {"hlr.active", set_active, CHANGES, UPDATE_KEY, 5, KEY_AND(NUMBER("s_id"), NUMBER("sf_type"), NUMBER("is_active")), "Switches a facility on or off, with its forwardings", ONE_ROW},
-    {"hlr.number", set_number, GROWS, UPDATE_KEY, 4, KEY_AND(NUMBER("s_id"), TEXT("sub_nbr")), "Gives a subscriber another number", ONE_ROW},
-    {"hlr.load", load, GROWS_MUCH, INSERT_KEY, 3, KEY_AND(TEXT("block")), "Adds rows as an AOF file has them", "O(K log N), where K is how many rows the block has"},
-    {"hlr.mgsd", get_subscribers, READS, READ_KEY, -3, KEY_AND({.name = "s_id", .type = REDIS_INTEGER, .key_spec = -1, .flags = REDIS_MULTIPLE}), "Reads subscribers", ROWS},
+     KEY_AND(TEXT("sub_nbr"), NUMBER("sf_type"), NUMBER("start_time"), NUMBER("end_time"), TEXT("numberx")),
+     "Adds a forwarding", ONE_ROW},
+    {"hlr.dcf", delete_forwarding, CHANGES, DELETE_KEY, 5,
+     KEY_AND(TEXT("sub_nbr"), NUMBER("sf_type"), NUMBER("start_time")),
+     "Removes a forwarding", ONE_ROW},
+    {"hlr.active", set_active, CHANGES, UPDATE_KEY, 5,
+     KEY_AND(NUMBER("s_id"), NUMBER("sf_type"), NUMBER("is_active")),
+     "Switches a facility on or off, with its forwardings", ONE_ROW},
+    {"hlr.number", set_number, GROWS, UPDATE_KEY, 4, KEY_AND(NUMBER("s_id"), TEXT("sub_nbr")),
+     "Gives a subscriber another number", ONE_ROW},
+    {"hlr.load", load, GROWS_MUCH, INSERT_KEY, 3, KEY_AND(TEXT("block")),
+     "Adds a block of rows of an AOF file", "O(K log N), where K is how many rows the block has"},
+    {"hlr.mgsd", get_subscribers, READS, READ_KEY, -3, KEY_AND(NUMBERS("s_id")), "Reads subscribers", ROWS},
     {"hlr.mgad", get_accesses, READS, READ_KEY, -4, KEY_AND(GROUPS("access", access_asked)), "Reads accesses", ROWS},
-    {"hlr.mgnd", get_destinations, READS, READ_KEY, -6, KEY_AND(GROUPS("call", destination_asked)), "Reads the numbers that several facilities forward to", ROWS},
-    {"hlr.counts", counts, READS, READ_KEY, -2, KEY_AND(COUNT_KIND), "Tells the live counts of hours, areas and zones", "O(1)"},
+    {"hlr.mgnd", get_destinations, READS, READ_KEY, -6, KEY_AND(GROUPS("call", destination_asked)),
+     "Reads the numbers that several facilities forward to", ROWS},
+    {"hlr.counts", counts, READS, READ_KEY, -2, KEY_AND(COUNT_KIND),
+     "Returns the live counts of hours, areas and zones", "O(1)"},
     {"hlr.recount", recount, READS_ALL, READ_KEY, -2, KEY_AND(COUNT_KIND), "Counts all rows anew", "O(N)"},
-    {"hlr.info", info, READS, READ_KEY, 2, KEY_ALONE, "Tells how many rows a register has, and its memory", "O(1)"},
-    {"hlr.scan", scan, READS_ALL, READ_KEY, -3, KEY_AND(NUMBER("cursor"), OPTION("count", "COUNT")), "Reads all rows of several subscribers", "O(K log N), where K is count"},
-    {"hlr.help", help, "fast", 0, 1, NULL, "Tells the ranges of fields", "O(1)"},
+    {"hlr.info", info, READS, READ_KEY, 2, KEY_ALONE, "Returns the numbers of rows and bytes of a register", "O(1)"},
+    {"hlr.scan", scan, READS_ALL, READ_KEY, -3, KEY_AND(NUMBER("cursor"), OPTION("count", "COUNT")),
+     "Reads all rows of several subscribers", "O(K log N), where K is count"},
+    {"hlr.help", help, "fast", 0, 1, NULL, "Shows the ranges of fields", "O(1)"},
 };
 
 /* ---- loading the module ---- */
@@ -121,10 +150,16 @@ static int is_made(redis_context *ctx, const struct command *command) {
     static const redis_info_sizes sizes = {1, sizeof(redis_history), sizeof(redis_key_spec), sizeof(redis_argument)};
     int key = command->key != 0;
     redis_key_spec specs[2] = {
-        {.flags = command->key, .begin = REDIS_BEGIN_INDEX, .begin_by.index.position = 1, .find = REDIS_FIND_RANGE, .find_by.range = {0, 1, 0}},
+        {
+            .flags = command->key,
+            .begin = REDIS_BEGIN_INDEX,
+            .begin_by.index.position = 1,
+            .find = REDIS_FIND_RANGE,
+            .find_by.range = {0, 1, 0},
+        },
         {0},
     };
-    redis_command_info told = {
+    redis_command_info info_of_command = {
         .sizes = &sizes,
         .summary = command->summary,
         .complexity = command->complexity,
@@ -134,7 +169,7 @@ static int is_made(redis_context *ctx, const struct command *command) {
         .arguments = command->arguments,
     };
     return redis.CreateCommand(ctx, command->name, command->function, command->flags, key, key, key) == REDIS_OK &&
-           redis.SetCommandInfo(redis.GetCommand(ctx, command->name), &told) == REDIS_OK;
+           redis.SetCommandInfo(redis.GetCommand(ctx, command->name), &info_of_command) == REDIS_OK;
 }
 
 /* The section of INFO MODULES. */

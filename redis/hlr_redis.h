@@ -20,32 +20,32 @@ extern redis_type *store_type;
 /* Memory of the server for the module itself, null when none is left. */
 void *try_alloc(size_t bytes);
 
-/* Adds what the calls of this thread took and gave back since the last call of settled to what a store has. It passes the
- * code of the last call on. Each call of hlr.h that may take or give back memory is made as its argument. */
+/* Adds the memory that this thread's calls of hlr.h took since the last call of settled to the bytes of a store,
+ * and returns the code. Call it after each call that may take or give back memory. */
 uint8_t settled(struct store *store, uint8_t code);
 
-/* How much memory all registers of the server have. */
+/* The memory of all registers of the server. */
 size_t bytes_of_all(void);
 
 /* ---- type.c ---- */
 
-/* Makes a store with an empty register; null, with the code that says why, if that is refused. */
+/* Makes a store with an empty register. If that is refused, it returns null and the code says why. */
 struct store *store_new(uint64_t width, uint8_t *code);
 void store_free(void *store);
 size_t store_memory(const void *store);
 unsigned long long stores_in_all(void);
 
-/* Adds up what is published of each cell and what isn't: the counts over the rows. */
+/* Adds up the published and the unposted count of each cell, which gives the counts of the rows. */
 void store_counts(struct store *store, int64_t counts[HLR_CELLS]);
 
 redis_type *store_type_made(redis_context *ctx);
 
-/* Ends the server, because it would otherwise go on with other rows than its master or than its own past. */
+/* Ends the server, because it would otherwise continue with other rows than its master or its own earlier run. */
 _Noreturn void end_server(redis_context *ctx, const char *what, const char *why);
 
 /* ---- fields.c: the numbers and letters that a command is given ---- */
 
-/* Words of a command, or fields of a record. */
+/* A word of a command, or a field of a record. */
 struct text {
     const char *at;
     size_t length;
@@ -53,12 +53,13 @@ struct text {
 
 struct text text_of(const redis_string *word);
 
-/* The number that decimal digits alone make, leading zeros allowed. Anything else is UINT64_MAX, which the register
- * refuses in each field, so that the register alone decides what is in range. */
+/* Reads a number of decimal digits, leading zeros allowed. Anything else gives UINT64_MAX, which the register
+ * refuses in every field. So the register alone decides what is in range. */
 uint64_t number_of(struct text text);
 void numbers_of(redis_string **words, int count, uint64_t *numbers);
 
-/* Rows of so many fields, in the order of docs/RECORDS.md. False where a field hasn't its count of digits or letters. */
+/* Read a row from its fields, in the order of docs/RECORDS.md. They return false if a field has another number of
+ * digits or letters than it should. */
 #define SUBSCRIBER_FIELDS 7
 #define ACCESS_FIELDS 6
 #define FACILITY_FIELDS 6
@@ -67,7 +68,7 @@ int subscriber_of(const struct text *fields, hlr_subscriber *row);
 int access_of(const struct text *fields, hlr_access *row);
 int facility_of(const struct text *fields, hlr_facility *row);
 
-/* Whether a word is this one, which is in upper case, in letters of either case. */
+/* Whether a word is the wanted one, which is in upper case. The word may be in either case. */
 int is_word(const redis_string *word, const char *wanted);
 
 /* ---- replies.c ---- */
@@ -83,27 +84,27 @@ int reply_number(redis_context *ctx, const char *name, uint64_t number);
 /* A number to call, in 15 digits. */
 int reply_digits(redis_context *ctx, uint64_t number);
 
-/* The reply of a read that ended with a code: its row as a map; null where the register has no such row. */
+/* Reply the result of a read: the row as a map, null if the code says that there is no such row, or else an error. */
 int reply_subscriber(redis_context *ctx, uint8_t code, const hlr_subscriber *row);
 int reply_access(redis_context *ctx, uint8_t code, const hlr_access *row);
 int reply_facility(redis_context *ctx, uint8_t code, const hlr_facility *row);
 int reply_forwarding(redis_context *ctx, uint8_t code, uint64_t end_time, uint64_t numberx);
 int reply_destinations(redis_context *ctx, uint8_t code, const hlr_numbers *numbers);
 
-/* Rows as HLR.SCAN replies them: with their keys. */
+/* Reply a row together with its key, for HLR.SCAN. */
 void reply_access_row(redis_context *ctx, const hlr_access *row);
 void reply_facility_row(redis_context *ctx, const hlr_facility *row);
 void reply_forwarding_row(redis_context *ctx, const hlr_forwarding_row *row);
 
 /* ---- reads.c and writes.c: the commands ---- */
 
-/* A key that is opened, and the store that it has. */
+/* An opened key, and the store that is its value. */
 struct opened {
     redis_key *key;
     struct store *store;
 };
 
-/* Opens the register at a key. Where there is none, replies why and returns false. */
+/* Opens the register at a key. If there is none, it replies an error and returns false. */
 int is_opened(redis_context *ctx, redis_string *name, int mode, struct opened *opened);
 
 #define COMMAND(name) int name(redis_context *ctx, redis_string **argv, int argc)
@@ -135,10 +136,11 @@ COMMAND(set_active);
 COMMAND(set_number);
 COMMAND(load);
 
-/* Ends a write that the register answered with a code. */
+/* Ends a write with the register's code: it replicates what was done, closes the key and replies. */
 int written(redis_context *ctx, redis_string **argv, struct opened *opened, uint8_t code, const char *event);
 
-/* Whether the command was done before, on the master or in an earlier run of the server, so that it may not be refused. */
+/* Whether the command was done before, on the master or in an earlier run of the server, so that it must not be
+ * refused now. */
 int is_repeated(redis_context *ctx);
 
 #endif

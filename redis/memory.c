@@ -1,19 +1,21 @@
 /*
- * memory.c: the memory of registers is Redis's.
+ * memory.c: registers get their memory from Redis, so that Redis counts it.
  *
- * libhlr.a calls malloc, realloc and free. The module is linked with --wrap for these three, so that they are the calls
- * below, and Redis counts what registers take: in used_memory, which maxmemory bounds, and in MEMORY USAGE.
+ * libhlr calls malloc, realloc and free. The module is linked with --wrap for these three names, so that libhlr calls
+ * the functions below instead. Redis then counts the memory of registers in used_memory, which maxmemory limits, and
+ * the module can report the memory of each register to MEMORY USAGE.
  *
- * TryAlloc answers null when no memory is left, and the register then refuses the call; Alloc would end the server. Both
- * align a block as hlr.h asks where Redis stands on jemalloc or on glibc's own malloc.
+ * TryAlloc returns null when no memory is left, and the register then refuses the call. Redis's other call, Alloc,
+ * would end the server. TryAlloc aligns a block as hlr.h asks if Redis was built with jemalloc or with glibc's
+ * malloc.
  *
- * Redis frees unlinked values in a thread of its own, so the sum over all registers is atomic, and what one call took is
- * counted for each thread.
+ * Redis frees unlinked values in a thread of its own. Therefore the sum over all registers is atomic, and each thread
+ * counts what its own calls take.
  */
 #include "hlr_redis.h"
 #include <string.h>
 
-/* A build for tests puts a call here that can be told to refuse memory. */
+/* The build for tests names a function here that refuses memory on request. */
 #ifdef TRY_ALLOC
 void *TRY_ALLOC(size_t bytes);
 #else
@@ -24,7 +26,8 @@ void *__wrap_malloc(size_t bytes);
 void *__wrap_realloc(void *block, size_t bytes);
 void __wrap_free(void *block);
 
-/* The memory of all registers, and what this thread's calls took beyond what they gave back, both modulo 2^64. */
+/* The memory of all registers; and what the calls of this thread took, less what they gave back, since the last call of
+ * settled. Both are modulo 2^64, so that they may fall below 0 for a moment. */
 static size_t all_bytes;
 static __thread size_t taken;
 
@@ -47,7 +50,7 @@ void __wrap_free(void *block) {
     redis.Free(block);
 }
 
-/* Redis before 7.4 has no realloc that may fail, so a block that must grow or shrink is copied. */
+/* Before 7.4, Redis offers modules no realloc that can fail. So a block that has to grow or shrink is copied. */
 void *__wrap_realloc(void *block, size_t bytes) {
     if (!block) return __wrap_malloc(bytes);
     size_t had = redis.MallocSize(block);

@@ -94,7 +94,7 @@ COMMAND(find) {
     return redis.ReplyWithLongLong(ctx, (long long)s_id);
 }
 
-/* ---- many rows: the register looks for 16 at a time with overlapping memory accesses ---- */
+/* ---- many rows: the register looks 16 keys up at a time, and their memory accesses overlap ---- */
 
 #define BATCH 16
 
@@ -185,7 +185,7 @@ static void reply_kind(redis_context *ctx, const struct kind *kind, const int64_
     for (int cell = kind->from; cell < kind->to; cell++) redis.ReplyWithLongLong(ctx, cells[cell]);
 }
 
-/* The counts of one kind, if a word asks for it, and else a map of all three kinds. */
+/* Replies the counts of one kind if a word asks for it, and otherwise a map of all three kinds. */
 static int reply_counts(redis_context *ctx, redis_string **argv, int argc, void (*count)(struct store *, int64_t cells[HLR_CELLS])) {
     const struct kind *asked = NULL;
     struct opened opened;
@@ -211,10 +211,10 @@ static void walked_counts(struct store *store, int64_t cells[HLR_CELLS]) {
     for (int cell = 0; cell < HLR_CELLS; cell++) cells[cell] = (int64_t)counted[cell];
 }
 
-/* HLR.COUNTS key [HOURS | AREAS | ZONES]: the live counts, for which no row is read. */
+/* HLR.COUNTS key [HOURS | AREAS | ZONES]: the live counts. No row is read for them. */
 COMMAND(counts) { return reply_counts(ctx, argv, argc, store_counts); }
 
-/* HLR.RECOUNT key [HOURS | AREAS | ZONES]: the same counts, made anew by a walk over all rows. */
+/* HLR.RECOUNT key [HOURS | AREAS | ZONES]: the same counts, made anew by reading all rows. */
 COMMAND(recount) { return reply_counts(ctx, argv, argc, walked_counts); }
 
 /* HLR.INFO key */
@@ -240,7 +240,8 @@ COMMAND(info) {
 #define SCAN_DEFAULT 10
 #define SCAN_MOST 10000
 
-/* How many subscribers there are from an s_id on, up to `most`, and the s_id of the one behind them, 0 if there is none. */
+/* Counts the subscribers from an s_id on, up to `most` of them. `behind` is the s_id of the next one, or 0 if there
+ * is none. */
 static uint64_t count_from(hlr *handle, uint64_t from, uint64_t most, uint64_t *behind) {
     hlr_subscriber rows[PAGE_ROWS];
     uint64_t found = 0, count = 0, room = 0;
@@ -256,8 +257,8 @@ static uint64_t count_from(hlr *handle, uint64_t from, uint64_t most, uint64_t *
     return most;
 }
 
-/* A subscriber with its rows, as a map of the four tables. The rows are gathered, because a list's length is replied before
- * its elements. */
+/* Replies a subscriber and all its rows as a map of the four tables. Rows are gathered first, because the length of
+ * a list is replied before its elements. */
 static void reply_rows(redis_context *ctx, struct walk *walk, const hlr_subscriber *subscriber) {
     uint64_t s_id = subscriber->s_id;
     const hlr_access *access;
@@ -284,8 +285,8 @@ static void reply_rows(redis_context *ctx, struct walk *walk, const hlr_subscrib
     for (long place = 0; place < count; place++) reply_forwarding_row(ctx, &forwardings[place]);
 }
 
-/* HLR.SCAN key cursor [COUNT count]: the cursor to go on with, which is 0 at the end, and all rows of up to so many
- * subscribers. A cursor is the s_id to go on with, so it never goes stale. */
+/* HLR.SCAN key cursor [COUNT count]: replies the next cursor, which is 0 at the end, and all rows of up to count
+ * subscribers. A cursor is an s_id, so it stays valid however long a client waits and whatever is added meanwhile. */
 COMMAND(scan) {
     struct opened opened;
     struct walk walk;

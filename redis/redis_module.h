@@ -1,13 +1,14 @@
 /*
  * redis_module.h: the part of Redis's module interface that hlr.so uses.
  *
- * No package of Debian has Redis's own header, so that part is declared here anew. It is the interface of Redis 7.0,
- * which later versions of Redis and Valkey still offer.
+ * No Debian package has Redis's own header, so this file declares the part that is needed. It is the interface of
+ * Redis 7.0, which later versions of Redis and Valkey still offer.
  *
- * A module is a shared object with one entry, RedisModule_OnLoad, so nothing of the server is linked. The server passes
- * the entry a context, whose first word is the address of a call that looks other calls up by name. redis_begin looks up
- * each call of REDIS_CALLS once, and the server refuses to load the module if it lacks one of them. No compiler can
- * compare these declarations with the server, so each call that is listed is made by a test in tests/outside/redis.
+ * A module is a shared object with one entry, RedisModule_OnLoad, and isn't linked with the server. The server passes
+ * a context to the entry. The first word of the context is the address of a function that looks up the server's other
+ * functions by name. redis_begin looks up each call of REDIS_CALLS once. If the server lacks one of them, it doesn't
+ * load the module. No compiler can compare these declarations with the server, so the tests in tests/outside/redis
+ * make each of these calls.
  */
 #ifndef REDIS_MODULE_H
 #define REDIS_MODULE_H
@@ -37,21 +38,19 @@ typedef int (*redis_function)(redis_context *ctx, redis_string **argv, int argc)
 #define REDIS_WRITE 2
 #define REDIS_KEY_EMPTY 0
 
-/* Answers of GetContextFlags: the server is a replica; the command came from the master; the server is loading its data;
- * it goes on serving its old data meanwhile. */
+/* Flags that GetContextFlags returns: the server is a replica; the command came from the master; the server is
+ * loading data; and it loads a master's data aside, while it still serves its own old data. */
 #define REDIS_IS_REPLICA (1 << 3)
 #define REDIS_FROM_MASTER (1 << 12)
 #define REDIS_IS_LOADING (1 << 13)
 #define REDIS_IS_LOADING_ASIDE (1 << 23)
 
-/* Options of SetModuleOptions: the type handles files that end early; only SignalModifiedKey tells that a key has
- * changed, and CloseKey never does; commands may run while a replica loads its master's data aside. */
+/* Options of SetModuleOptions: the type handles files that end early; a key counts as changed after
+ * SignalModifiedKey only, and not after each CloseKey; commands may run while a replica loads its master's data
+ * aside. */
 #define REDIS_HANDLES_IO_ERRORS 1
 #define REDIS_SIGNALS_CHANGES 2
 #define REDIS_HANDLES_LOADING_ASIDE 4
-
-/* The length of an array that is told by ReplySetArrayLength once its elements were replied. */
-#define REDIS_LENGTH_LATER (-1)
 
 /* The kind of keyspace event that modules send, which has the letter d in notify-keyspace-events. */
 #define REDIS_NOTIFY_MODULE (1 << 13)
@@ -82,13 +81,13 @@ typedef struct {
 typedef struct redis_argument {
     const char *name;
     int type;
-    int key_spec;      /* the index of a key's specification, -1 for what is no key */
+    int key_spec;      /* the index of the key's specification, -1 if it isn't a key */
     const char *token; /* a word that is typed before the argument, or that is the argument */
     const char *summary;
     const char *since;
     int flags;
     const char *deprecated_since;
-    struct redis_argument *arguments; /* those of which a block consists, or of which one is chosen */
+    struct redis_argument *arguments; /* those of a block, or those of which one is chosen */
     const char *display_text;         /* Redis 7.2 and later read it; the sizes below let 7.0 step over it */
 } redis_argument;
 
@@ -170,7 +169,7 @@ typedef struct {
     CALL(redis_command *, GetCommand, (redis_context *, const char *name)) \
     CALL(int, SetCommandInfo, (redis_command *, const redis_command_info *)) \
     CALL(redis_type *, CreateDataType, (redis_context *, const char *name, int version, redis_type_methods *)) \
-    CALL(int, RegisterInfoFunc, (redis_context *, void (*told)(redis_info *, int for_crash_report))) \
+    CALL(int, RegisterInfoFunc, (redis_context *, void (*report)(redis_info *, int for_crash_report))) \
     CALL(int, InfoAddSection, (redis_info *, const char *name)) \
     CALL(int, InfoAddFieldULongLong, (redis_info *, const char *name, unsigned long long)) \
     CALL(int, GetContextFlags, (redis_context *)) \
@@ -188,7 +187,6 @@ typedef struct {
     CALL(int, ReplyWithLongLong, (redis_context *, long long)) \
     CALL(int, ReplyWithNull, (redis_context *)) \
     CALL(int, ReplyWithArray, (redis_context *, long)) \
-    CALL(void, ReplySetArrayLength, (redis_context *, long)) \
     CALL(int, ReplyWithMap, (redis_context *, long)) \
     CALL(int, ReplyWithStringBuffer, (redis_context *, const char *, size_t)) \
     CALL(int, Replicate, (redis_context *, const char *command, const char *kinds, ...)) \
@@ -214,7 +212,8 @@ struct redis_calls {
 /* The calls of the server that loaded the module; hlr_redis.c defines them. */
 extern struct redis_calls redis;
 
-/* Looks all calls up and gives the module its name. REDIS_ERR if the server lacks a call or has a module of that name. */
+/* Looks all calls up and gives the module its name. REDIS_ERR if the server lacks a call or has a module of that
+ * name. */
 static inline int redis_begin(redis_context *ctx, const char *name, int version) {
     int (*look_up)(const char *, void *) = *(int (**)(const char *, void *))ctx;
 #define REDIS_LOOK_UP(result, call, takes) \

@@ -1,6 +1,7 @@
 /*
- * replies.c: what commands reply. A row is a map: by RESP3 as such, by RESP2 as a flat list, as HGETALL has it. Numbers to
- * call are text of 15 digits, since they are names and no quantities; all other numbers are integers.
+ * replies.c: what commands reply. A row is a map, which RESP2 clients get as a flat list of names and values, like
+ * the reply of HGETALL. A number to call is text of 15 digits, because its leading zeros count. All other numbers are
+ * integers.
  */
 #include "hlr_redis.h"
 #include <string.h>
@@ -39,7 +40,7 @@ int reply_digits(redis_context *ctx, uint64_t number) {
     return redis.ReplyWithStringBuffer(ctx, digits, sizeof digits);
 }
 
-/* Ten numbers in hexadecimal digits, `each` for one. */
+/* Ten numbers as hexadecimal digits, `each` digits for one number. */
 static void reply_hexadecimal(redis_context *ctx, const char *name, const uint8_t numbers[10], size_t each) {
     static const char digits[] = "0123456789abcdef";
     char text[20], *to = text;

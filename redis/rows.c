@@ -10,7 +10,8 @@
  *     7 of each facility: 1 error_cntrl    1 data_a    5 data_b
  *     8 of each forwarding: 1 end_time    7 numberx
  *
- * So s_id is told once, and a type or a start time takes no byte. The length of a subscriber follows from its kinds.
+ * So s_id is written once for all rows of a subscriber, and types and start times take only bits. The length of a
+ * subscriber follows from its kinds.
  */
 #include "rows.h"
 #include <string.h>
@@ -27,8 +28,8 @@
 #define ACTIVE(kinds) ((kinds) >> 8 & 15)
 #define STARTS(kinds) ((kinds) >> 12)
 
-/* The lowest bytes of a number are those that lie first. */
-_Static_assert(__BYTE_ORDER__ == __ORDER_LITTLE_ENDIAN__, "numbers are copied as they lie in memory");
+/* put and get copy numbers as they are in memory, which has the lowest byte first. */
+_Static_assert(__BYTE_ORDER__ == __ORDER_LITTLE_ENDIAN__, "blocks are little-endian");
 
 static inline uint8_t *put(uint8_t *to, uint64_t number, size_t bytes) {
     memcpy(to, &number, bytes);
@@ -58,7 +59,7 @@ static uint8_t *put_subscriber(uint8_t *to, const hlr_subscriber *row) {
     return put(put(put_bytes(to, row->bytes, 10), row->msc_location, 4), row->vlr_location, 4);
 }
 
-/* All rows of a subscriber, its kinds last, since they are known then. */
+/* Writes all rows of a subscriber. Its kinds are written last, because they are only known then. */
 static uint8_t *put_rows(uint8_t *to, struct walk *walk, const hlr_subscriber *subscriber) {
     const hlr_access *access;
     const hlr_facility *facility;
@@ -90,7 +91,8 @@ size_t block_of_rows(struct walk *walk, uint8_t block[BLOCK_BYTES]) {
     return (size_t)(to - block);
 }
 
-/* ---- bytes to rows: a pass over the block for each table, since rows of one tree are added fastest together ---- */
+/* ---- bytes to rows: one pass over the block for each table, because that is faster than subscriber by subscriber
+ * ---- */
 
 /* How many of four bits are set. */
 static inline size_t ones(uint64_t bits) {
@@ -106,7 +108,7 @@ static inline size_t length_of(uint64_t kinds) {
     return before_forwardings(kinds) + FORWARDING * (ones(starts) + ones(starts >> 4) + ones(starts >> 8));
 }
 
-/* Only facilities that are there are active or have forwardings. */
+/* Whether only facilities that exist are active or have forwardings. */
 static int is_kinds(uint64_t kinds) {
     uint64_t facilities = FACILITIES(kinds), starts = STARTS(kinds);
     for (int type = 0; type < 4; type++)
@@ -115,7 +117,12 @@ static int is_kinds(uint64_t kinds) {
 }
 
 static uint8_t add_subscriber_of(hlr *handle, const uint8_t *head) {
-    hlr_subscriber row = {.s_id = get(head, 4), .sub_nbr = get(head + 4, 7), .msc_location = get(head + 28, 4), .vlr_location = get(head + 32, 4)};
+    hlr_subscriber row = {
+        .s_id = get(head, 4),
+        .sub_nbr = get(head + 4, 7),
+        .msc_location = get(head + 28, 4),
+        .vlr_location = get(head + 32, 4),
+    };
     uint64_t bits = get(head + 11, 2), hexes = get(head + 13, 5);
     if (bits >> 10) return HLR_FIELD;
     for (int place = 0; place < 10; place++) {
@@ -161,7 +168,13 @@ static uint8_t add_facilities(hlr_part *part, const uint8_t *block, const uint8_
         const uint8_t *at = block + before_facilities(kinds);
         for (uint64_t type = 1; type <= 4; type++) {
             if (!(FACILITIES(kinds) >> (type - 1) & 1)) continue;
-            hlr_facility row = {.s_id = get(block, 4), .sf_type = type, .is_active = ACTIVE(kinds) >> (type - 1) & 1, .error_cntrl = at[0], .data_a = at[1]};
+            hlr_facility row = {
+                .s_id = get(block, 4),
+                .sf_type = type,
+                .is_active = ACTIVE(kinds) >> (type - 1) & 1,
+                .error_cntrl = at[0],
+                .data_a = at[1],
+            };
             memcpy(row.data_b, at + 2, sizeof row.data_b);
             uint8_t code = hlr_part_add_facility(part, &row);
             if (code != HLR_DONE) return code;
@@ -177,7 +190,8 @@ static uint8_t add_forwardings(hlr_part *part, const uint8_t *block, const uint8
         const uint8_t *at = block + before_forwardings(kinds);
         for (uint64_t start = 0; start < 12; start++) {
             if (!(STARTS(kinds) >> start & 1)) continue;
-            uint8_t code = hlr_part_insert_forwarding(part, get(block, 4), 1 + start / 3, start % 3 * 8, at[0], get(at + 1, 7));
+            uint8_t code =
+                hlr_part_insert_forwarding(part, get(block, 4), 1 + start / 3, start % 3 * 8, at[0], get(at + 1, 7));
             if (code != HLR_DONE) return code;
             at += FORWARDING;
         }
@@ -185,8 +199,9 @@ static uint8_t add_forwardings(hlr_part *part, const uint8_t *block, const uint8
     return HLR_DONE;
 }
 
-/* Rows that name their subscriber by s_id are added to the part, which is lent meanwhile, since a register's own call adds
- * a forwarding by number, and would look each number up. */
+/* The register's own call adds a forwarding by the subscriber's number, and so has to look each number up. The
+ * calls on a lent part take the s_id instead. So the part is lent while the rows of the last three tables are
+ * added. */
 uint8_t rows_of_block(hlr *handle, const uint8_t *block, size_t length) {
     const uint8_t *end = block + length;
     hlr_part part = HLR_CLOSED;

@@ -1,9 +1,9 @@
 /*
  * type.c: the data type, hlrregist: how a register is made, saved, loaded, copied, measured and freed.
  *
- * An RDB file, and what DUMP gives, has of a register the width of its zones, then blocks of rows (rows.c), then an empty
- * block. That is version 0 of the type. The register checks all rows on their way in, and makes its counts anew, so
- * damaged bytes are refused or are rows in range, and counts are right in either case.
+ * In an RDB file and in the reply of DUMP, a register is the width of its zones, then blocks of rows (rows.c), then
+ * an empty block. That is version 0 of the type. When it is loaded, the register checks each row and counts it anew.
+ * So damaged bytes are either refused or give rows in range, and the counts are those of the rows in both cases.
  */
 #include "hlr_redis.h"
 #include "rows.h"
@@ -27,7 +27,7 @@ struct store *store_new(uint64_t width, uint8_t *code) {
     return store;
 }
 
-/* Redis calls it from its main thread, or from the one that frees unlinked values. */
+/* Redis calls it from its main thread, or from the thread that frees unlinked values. */
 void store_free(void *value) {
     struct store *store = value;
     settled(store, hlr_close(&store->handle));
@@ -46,11 +46,12 @@ void store_counts(struct store *store, int64_t counts[HLR_CELLS]) {
 }
 
 _Noreturn void end_server(redis_context *ctx, const char *what, const char *why) {
-    redis.Log(ctx, "warning", "%s was done before and is refused now, so this server ends rather than go on with other rows: %s", what, why);
+    redis.Log(ctx, "warning",
+              "%s was done before and is refused now, so this server ends rather than continue with other rows: %s", what, why);
     exit(1);
 }
 
-/* ---- saving: in a forked child for BGSAVE, a full sync and a rewrite, which hlr.h allows for calls that read ---- */
+/* ---- saving: BGSAVE, full syncs and rewrites do it in a forked child, where hlr.h allows calls that read ---- */
 
 static uint64_t width_of(struct store *store) {
     uint64_t width = 0;
@@ -72,7 +73,7 @@ static void type_save(redis_io *io, void *value) {
     redis.Free(block);
 }
 
-/* Where aof-use-rdb-preamble is no, a rewritten AOF file has the same blocks in commands. */
+/* If aof-use-rdb-preamble is no, a rewritten AOF file has the same blocks as words of HLR.LOAD. */
 static void type_rewrite(redis_io *io, redis_string *key, void *value) {
     struct store *store = value;
     struct walk walk;
@@ -100,24 +101,30 @@ static void type_digest(redis_digest *digest, void *value) {
 /* ---- loading and copying ---- */
 
 /*
- * Ends the server if a value is refused that was there before. Out of memory while the server loads its data: a RESTORE of
- * an AOF file would otherwise be left out. A value that a replica refuses while it isn't loading: RESTORE and COPY only come
- * there from the master, which has the value. In all other cases the null that follows is enough: RESTORE and COPY reply an
- * error, and the server doesn't start on a damaged file.
+ * Ends the server if it refuses a value that its master or its own earlier run had. There are two such cases:
+ *
+ *   - The server loads its data and runs out of memory. Redis would skip the value if it came from a RESTORE in an
+ *     AOF file.
+ *   - A replica refuses a value while it isn't loading. RESTORE and COPY reach a replica only from its master, which
+ *     has the value.
+ *
+ * In all other cases it is enough that the caller returns null: RESTORE and COPY then reply an error, and a server
+ * doesn't start on a damaged file.
  */
 static void end_if_kept(redis_context *ctx, uint8_t code) {
     int flags = redis.GetContextFlags(ctx), is_loading = flags & REDIS_IS_LOADING;
     if (is_loading ? code == HLR_MEMORY : flags & REDIS_IS_REPLICA) end_server(ctx, "a register", refusal_text(code));
 }
 
-/* Adds blocks until the empty one. */
+/* Loads blocks up to the empty one. */
 static uint8_t load_blocks(redis_io *io, struct store *store) {
     for (uint8_t code = HLR_DONE; code == HLR_DONE;) {
         size_t length = 0;
         char *block = redis.LoadStringBuffer(io, &length);
         if (!block || redis.IsIOError(io)) return HLR_FIELD;
         int is_end = length == 0;
-        code = length > BLOCK_BYTES ? HLR_FIELD : settled(store, rows_of_block(&store->handle, (const uint8_t *)block, length));
+        code = HLR_FIELD;
+        if (length <= BLOCK_BYTES) code = settled(store, rows_of_block(&store->handle, (const uint8_t *)block, length));
         redis.Free(block);
         if (is_end || code != HLR_DONE) return code;
     }
@@ -141,7 +148,7 @@ static void *type_load(redis_io *io, int version) {
     return NULL;
 }
 
-/* A register is copied block by block, so that all kinds of copies have one way. */
+/* A register is copied block by block, so that COPY uses the same code as saving and loading. */
 static void *type_copy(redis_string *from_key, redis_string *to_key, const void *value) {
     (void)from_key, (void)to_key;
     struct store *from = (struct store *)(uintptr_t)value;
@@ -159,8 +166,8 @@ static void *type_copy(redis_string *from_key, redis_string *to_key, const void 
     return NULL;
 }
 
-/* How much work freeing a register is: about one for each block of memory. UNLINK and FLUSHALL ASYNC leave what is more
- * than 64 to a thread. */
+/* The work of freeing a register, which is about one for each piece of memory. UNLINK and FLUSHALL ASYNC hand a
+ * value with more than 64 to a thread. */
 static size_t type_effort(redis_string *key, const void *value) {
     (void)key;
     return 1 + ((const struct store *)value)->bytes / 1024;

@@ -1,7 +1,9 @@
 /* walk.c: all rows of a register in order, table by table in pages, put together for each subscriber. */
 #include "rows.h"
 
-static void begin_page(const struct walk *walk, struct page *page, uint64_t count) { *page = (struct page){0, count, count < walk->room}; }
+static void begin_page(const struct walk *walk, struct page *page, uint64_t count) {
+    *page = (struct page){0, count, count < walk->room};
+}
 
 void walk_begin(struct walk *walk, hlr *handle, uint64_t s_id, size_t room) {
     uint64_t count = 0;
@@ -38,7 +40,8 @@ const hlr_access *walk_access(struct walk *walk, uint64_t s_id) {
         hlr_next_accesses(walk->handle, last->s_id, last->ai_type + 1, walk->accesses, walk->room, &count);
         begin_page(walk, page, count);
     }
-    return page->next < page->count && walk->accesses[page->next].s_id == s_id ? &walk->accesses[page->next++] : NULL;
+    if (page->next == page->count || walk->accesses[page->next].s_id != s_id) return NULL;
+    return &walk->accesses[page->next++];
 }
 
 const hlr_facility *walk_facility(struct walk *walk, uint64_t s_id) {
@@ -49,7 +52,8 @@ const hlr_facility *walk_facility(struct walk *walk, uint64_t s_id) {
         hlr_next_facilities(walk->handle, last->s_id, last->sf_type + 1, walk->facilities, walk->room, &count);
         begin_page(walk, page, count);
     }
-    return page->next < page->count && walk->facilities[page->next].s_id == s_id ? &walk->facilities[page->next++] : NULL;
+    if (page->next == page->count || walk->facilities[page->next].s_id != s_id) return NULL;
+    return &walk->facilities[page->next++];
 }
 
 const hlr_forwarding_row *walk_forwarding(struct walk *walk, uint64_t s_id) {
@@ -57,8 +61,10 @@ const hlr_forwarding_row *walk_forwarding(struct walk *walk, uint64_t s_id) {
     if (is_used_up(page)) {
         const hlr_forwarding_row *last = &walk->forwardings[page->count - 1];
         uint64_t count = 0;
-        hlr_next_forwardings(walk->handle, last->s_id, last->sf_type, last->start_time + 1, walk->forwardings, walk->room, &count);
+        hlr_next_forwardings(walk->handle, last->s_id, last->sf_type, last->start_time + 1, walk->forwardings, walk->room,
+                             &count);
         begin_page(walk, page, count);
     }
-    return page->next < page->count && walk->forwardings[page->next].s_id == s_id ? &walk->forwardings[page->next++] : NULL;
+    if (page->next == page->count || walk->forwardings[page->next].s_id != s_id) return NULL;
+    return &walk->forwardings[page->next++];
 }

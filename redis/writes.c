@@ -1,12 +1,14 @@
 /*
  * writes.c: the commands that write one row, HLR.CREATE and HLR.LOAD.
  *
- * A write that is done is replicated as it was typed, to replicas and into the AOF file. That is right because what it does
- * depends on the register's rows and its words alone: on no clock, no chance and no order of hashing. A write that is
- * refused changes nothing, so it isn't replicated, nor told to clients that WATCH the key or listen to its events.
+ * A write that is done is replicated as it was typed, to replicas and into the AOF file. That is right because its
+ * effect depends on the register's rows and the command's words only, and not on a clock, on chance or on an order of
+ * hashing. A write that is refused changes nothing. So it isn't replicated, it doesn't disturb clients that WATCH the
+ * key, and it sends no keyspace event.
  *
- * Memory is the one thing that may differ between servers. So a server that refuses a write which its master did, or which
- * it did itself before it was restarted, ends with a line in its log. It would otherwise go on with other rows.
+ * Memory is the one thing in which servers can differ. If a server refuses a write that its master has done, or that
+ * it did itself before a restart, it ends with a line in its log. Otherwise it would continue with other rows than
+ * its master.
  */
 #include "hlr_redis.h"
 #include "rows.h"
@@ -46,7 +48,7 @@ COMMAND(create) {
 
 /* ---- commands whose fields are numbers ---- */
 
-/* Reads so many numbers behind the key, and opens it. */
+/* Reads the numbers after the key, and opens the key. */
 static int is_begun(redis_context *ctx, redis_string **argv, int count, uint64_t *numbers, struct opened *opened) {
     numbers_of(argv + 2, count, numbers);
     return is_opened(ctx, argv[1], REDIS_WRITE, opened);
@@ -58,7 +60,8 @@ COMMAND(update_subscriber) {
     struct opened opened;
     uint64_t n[4];
     if (!is_begun(ctx, argv, 4, n, &opened)) return REDIS_OK;
-    return written(ctx, argv, &opened, hlr_update_subscriber(&opened.store->handle, n[0], n[1], n[2], n[3]), "hlr.usd");
+    uint8_t code = hlr_update_subscriber(&opened.store->handle, n[0], n[1], n[2], n[3]);
+    return written(ctx, argv, &opened, code, "hlr.usd");
 }
 
 /* HLR.UL key sub_nbr vlr_location */
@@ -76,7 +79,8 @@ COMMAND(insert_forwarding) {
     struct opened opened;
     uint64_t n[5];
     if (!is_begun(ctx, argv, 5, n, &opened)) return REDIS_OK;
-    return written(ctx, argv, &opened, settled(opened.store, hlr_insert_forwarding(&opened.store->handle, n[0], n[1], n[2], n[3], n[4])), "hlr.icf");
+    uint8_t code = hlr_insert_forwarding(&opened.store->handle, n[0], n[1], n[2], n[3], n[4]);
+    return written(ctx, argv, &opened, settled(opened.store, code), "hlr.icf");
 }
 
 /* HLR.DCF key sub_nbr sf_type start_time */
@@ -85,7 +89,8 @@ COMMAND(delete_forwarding) {
     struct opened opened;
     uint64_t n[3];
     if (!is_begun(ctx, argv, 3, n, &opened)) return REDIS_OK;
-    return written(ctx, argv, &opened, settled(opened.store, hlr_delete_forwarding(&opened.store->handle, n[0], n[1], n[2])), "hlr.dcf");
+    uint8_t code = hlr_delete_forwarding(&opened.store->handle, n[0], n[1], n[2]);
+    return written(ctx, argv, &opened, settled(opened.store, code), "hlr.dcf");
 }
 
 /* HLR.ACTIVE key s_id sf_type is_active */
@@ -103,12 +108,13 @@ COMMAND(set_number) {
     struct opened opened;
     uint64_t n[2];
     if (!is_begun(ctx, argv, 2, n, &opened)) return REDIS_OK;
-    return written(ctx, argv, &opened, settled(opened.store, hlr_set_number(&opened.store->handle, n[0], n[1])), "hlr.number");
+    uint8_t code = hlr_set_number(&opened.store->handle, n[0], n[1]);
+    return written(ctx, argv, &opened, settled(opened.store, code), "hlr.number");
 }
 
 /* ---- commands that add a row ---- */
 
-/* The texts behind the key, and opens it. */
+/* Reads the texts after the key, and opens the key. */
 static int is_row(redis_context *ctx, redis_string **argv, int count, struct text *fields, struct opened *opened) {
     for (int place = 0; place < count; place++) fields[place] = text_of(argv[2 + place]);
     return is_opened(ctx, argv[1], REDIS_WRITE, opened);
@@ -121,8 +127,8 @@ COMMAND(add_subscriber) {
     struct text fields[SUBSCRIBER_FIELDS];
     hlr_subscriber row;
     if (!is_row(ctx, argv, SUBSCRIBER_FIELDS, fields, &opened)) return REDIS_OK;
-    uint8_t code = subscriber_of(fields, &row) ? settled(opened.store, hlr_add_subscriber(&opened.store->handle, &row)) : HLR_FIELD;
-    return written(ctx, argv, &opened, code, "hlr.addsub");
+    uint8_t code = subscriber_of(fields, &row) ? hlr_add_subscriber(&opened.store->handle, &row) : HLR_FIELD;
+    return written(ctx, argv, &opened, settled(opened.store, code), "hlr.addsub");
 }
 
 /* HLR.ADDACC key s_id ai_type data1 data2 data3 data4 */
@@ -132,8 +138,8 @@ COMMAND(add_access) {
     struct text fields[ACCESS_FIELDS];
     hlr_access row;
     if (!is_row(ctx, argv, ACCESS_FIELDS, fields, &opened)) return REDIS_OK;
-    uint8_t code = access_of(fields, &row) ? settled(opened.store, hlr_add_access(&opened.store->handle, &row)) : HLR_FIELD;
-    return written(ctx, argv, &opened, code, "hlr.addacc");
+    uint8_t code = access_of(fields, &row) ? hlr_add_access(&opened.store->handle, &row) : HLR_FIELD;
+    return written(ctx, argv, &opened, settled(opened.store, code), "hlr.addacc");
 }
 
 /* HLR.ADDFAC key s_id sf_type is_active error_cntrl data_a data_b */
@@ -143,14 +149,15 @@ COMMAND(add_facility) {
     struct text fields[FACILITY_FIELDS];
     hlr_facility row;
     if (!is_row(ctx, argv, FACILITY_FIELDS, fields, &opened)) return REDIS_OK;
-    uint8_t code = facility_of(fields, &row) ? settled(opened.store, hlr_add_facility(&opened.store->handle, &row)) : HLR_FIELD;
-    return written(ctx, argv, &opened, code, "hlr.addfac");
+    uint8_t code = facility_of(fields, &row) ? hlr_add_facility(&opened.store->handle, &row) : HLR_FIELD;
+    return written(ctx, argv, &opened, settled(opened.store, code), "hlr.addfac");
 }
 
 /*
- * HLR.LOAD key block: adds the rows of a block, as an AOF file has them that was rewritten without a preamble. Only the
- * server itself may call it, while it loads such a file: a block can be refused in its midst, and no call takes the rows
- * before that out again, so a client's block could be done here in part and elsewhere in whole.
+ * HLR.LOAD key block: adds the rows of a block. AOF files have this command if they were rewritten without an RDB
+ * preamble, and only the server itself may run it, while it loads such a file. Clients may not, because a block can
+ * be refused halfway, and the rows before that point can't be removed again. Replication would then have to repeat a
+ * part of a block.
  */
 COMMAND(load) {
     (void)argc;

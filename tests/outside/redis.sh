@@ -1,8 +1,9 @@
 #!/usr/bin/env bash
-# The Redis module hlr.so: blocks of rows without a server, and then with real servers of Redis all that redis/ promises.
+# The Redis module hlr.so: blocks of rows without a server, and then everything else with real servers of Redis.
 #
-# The servers listen on loopback, on free ports and with folders of their own, and end with the test, by their process ids. No
-# server of the machine is used. The tests run in two rows side by side and take a minute and a half on four processors.
+# The servers listen on loopback and on free ports, have folders of their own, and end with the test, by their process ids. A
+# server that the machine runs already isn't used or disturbed. The tests run in two rows side by side, which takes a minute
+# and a half on four processors.
 . "$(dirname "$0")/lib.sh" || exit 1
 . tests/outside/c_lib.sh || exit 1
 here=tests/outside/redis

@@ -1,4 +1,4 @@
-"""What the tests count: checks that passed, and checks that failed, which are told at once."""
+"""Counts the checks of a test that passed and that failed. A failed one is printed at once."""
 import sys
 
 passed = failed = 0

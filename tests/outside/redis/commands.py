@@ -1,4 +1,5 @@
-"""The commands of the module in one server: against a model, what COMMAND tells of them, refusals, transactions and events.
+"""The commands of the module in one server: drawn commands against a model, COMMAND INFO and DOCS, refusals, transactions and
+events.
 
     commands.py MODULE [ROUNDS]
 """
@@ -243,7 +244,7 @@ def events(one, server):
 
 
 def counted(one):
-    """INFO tells the registers and their memory; a big register is freed by a thread where that is asked for."""
+    """INFO has the number of registers and their memory. UNLINK and FLUSHALL ASYNC free a big register in a thread."""
     one("FLUSHALL")
     model = filling(Model(), random.Random(1), 2000)
     for how, is_behind in (("DEL", False), ("UNLINK", True), ("FLUSHALL", True)):
@@ -251,7 +252,7 @@ def counted(one):
         told, memory = info(one, "modules"), one("MEMORY", "USAGE", "big")
         same("registers", told["hlr_count"], 1)
         check("memory", 300_000 < told["hlr_memory"] <= memory < told["hlr_memory"] + 1000, (told, memory))
-        same("HLR.INFO tells the memory", abs(one("HLR.INFO", "big")[-1] - told["hlr_memory"]) < 100, True)
+        same("memory of HLR.INFO", abs(one("HLR.INFO", "big")[-1] - told["hlr_memory"]) < 100, True)
         before = info(one, "memory")["lazyfreed_objects"]
         one(*([how, "big"] if how != "FLUSHALL" else [how, "ASYNC"]))
         wait_for(how, lambda: info(one, "modules")["hlr_count"] == 0)

@@ -70,7 +70,7 @@ def payloads(server, count):
 
 
 def blocks(server, good, count):
-    """Blocks of an AOF file, damaged, in a server that goes on."""
+    """Damaged blocks of an AOF file, added by a command of the tests, so that one server can try many."""
     one, drawn = server.connection(), random.Random(7)
     taken = 0
     for _ in range(count):

@@ -1,4 +1,4 @@
-"""What is kept: RDB and AOF files, DUMP, COPY and MOVE have the same rows, also where a restart lies between.
+"""What is kept: RDB and AOF files, DUMP, COPY and MOVE have the same rows, also after a restart.
 
     kept.py MODULE
     kept.py MODULE keep    makes version_0.rdb and version_0.csv anew, which is right for a new version of the type alone
@@ -126,7 +126,7 @@ def by_keys(module):
 
 
 def kept_file(module):
-    """An RDB file that was made when version 0 of the type was: its rows are those of the records beside it."""
+    """version_0.rdb was saved by the first version of the type. It has the rows of the records in version_0.csv."""
     server = Server("version_0", module)
     server.kill()
     shutil.copy(os.path.join(HERE, "version_0.rdb"), os.path.join(server.folder, "dump.rdb"))
@@ -137,7 +137,7 @@ def kept_file(module):
         records = file.read()
     one("HLR.CREATE", "again", "ZONE", KEEPER_WIDTH)
     reply = one("HLR.ADD", "again", records)
-    same("records beside it", reply[:4], ["added", len(records.splitlines()), "refused", 0])
+    same("records of the kept file", reply[:4], ["added", len(records.splitlines()), "refused", 0])
     same("rows of the kept file", *one("DEBUG", "DIGEST-VALUE", "kept", "again"))
     same("counts of the kept file", one("HLR.COUNTS", "kept"), one("HLR.RECOUNT", "again"))
     server.kill()

@@ -15,7 +15,7 @@ WRITES = 8000
 
 
 def bounded(module):
-    """At maxmemory adds are refused, and what needs no memory goes on."""
+    """At maxmemory, commands that add rows are refused, and commands that need no memory still work."""
     server = Server("bounded", module)
     one = server.connection()
     added(one, "m", filling(Model(), random.Random(1), 2000))
@@ -156,7 +156,7 @@ def replica_ends(module, master):
                     break
         status = replica.child.wait(PATIENCE)
         same(f"{name}: the replica's status", status, 1)
-        check(f"{name}: its log", "rather than go on with other rows: OOM no memory was left" in replica.log(), replica.log()[-600:])
+        check(f"{name}: its log", "rather than continue with other rows: OOM no memory was left" in replica.log(), replica.log()[-600:])
         same(f"{name}: it is no crash", "crashed by signal" in replica.log(), False)
         one("DEL", "v2", "w2")
 
@@ -180,7 +180,7 @@ def loading_ends(module):
             refused += 1
             same("its status", server.child.returncode, 1)
     check("it ended at several places", refused >= 4, refused)
-    check("its log", "rather than go on with other rows: OOM no memory was left" in server.log())
+    check("its log", "rather than continue with other rows: OOM no memory was left" in server.log())
     same("all rows in the end", server.digest(), digest)
     server.kill()
 

@@ -96,7 +96,7 @@ def alike(master, replicas):
 
 
 def partial(master, replicas):
-    """A replica that lost its link for a while goes on from where it was."""
+    """A replica that lost its link for a while continues from where it was."""
     with replicas[0].connection() as one:
         one("REPLICAOF", "NO", "ONE")
         one("REPLICAOF", "127.0.0.1", master.port)
@@ -106,8 +106,8 @@ def partial(master, replicas):
 
 
 def aside(master, replica):
-    """A replica that missed too much loads all data aside, and goes on answering reads from its old data. Small keys beside
-    the register make that take a while."""
+    """A replica that missed too much loads all data aside, and answers reads from its old data meanwhile. Many small keys make
+    that take a while."""
     master.set("repl-backlog-size", "16384", "client-output-buffer-limit", "replica 1mb 1mb 1")
     replica.set("key-load-delay", 2000, "loading-process-events-interval-bytes", 1024)
     one, two = master.connection(), replica.connection()
@@ -152,7 +152,7 @@ class Sentinel(Process):
 
 
 def write(sentinel, location):
-    """One write, to the master that a Sentinel tells: whether it was acknowledged."""
+    """One write to the master that a Sentinel names. Returns whether it was acknowledged."""
     try:
         with Connection(int(sentinel("get-master-addr-by-name", "main")[1]), timeout=1) as one:
             return one("HLR.UL", "hlr", 1, location) == "OK"
@@ -161,7 +161,7 @@ def write(sentinel, location):
 
 
 def master_by(sentinel, servers):
-    """The server that a Sentinel tells as the master."""
+    """The server that a Sentinel names as the master."""
     port = int(sentinel("get-master-addr-by-name", "main")[1])
     return next(one for one in servers if one.port == port)
 
