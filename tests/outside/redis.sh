@@ -41,24 +41,25 @@ blocks() {
   ended 'blocks of rows under valgrind' /dev/null valgrind -q --leak-check=full --error-exitcode=9 "$room/blocks" 300
 }
 
-# row NAME=MODULE ..: runs these tests one after another; what they say goes to files.
+# row NAME=MODULE ..: runs these tests one after another. What they print goes to files.
 row() {
   local one
-  for one in "$@"; do timeout -k 10 170 python3 -W error "$here/${one%%=*}.py" "$room/${one#*=}" > "$room/${one%%=*}.said" 2>&1; done
+  for one in "$@"; do timeout -k 10 170 python3 -W error "$here/${one%%=*}.py" "$room/${one#*=}" > "$room/$one.said" 2>&1; done
 }
 
 # servers: all tests with servers, in two rows.
 servers() {
-  local name first=(replica=gcc.so cluster=gcc.so kept=gcc.so rights=gcc.so) second=(commands=clang.so memory=refusing.so crash=gcc.so hostile=sanitized.so)
+  local one first=(replica=gcc.so cluster=gcc.so kept=gcc.so rights=gcc.so commands=clang.so)
+  local second=(commands=sanitized.so memory=sanitized.so crash=gcc.so hostile=sanitized.so)
   [ -f "$room/clang.so" ] || cp "$room/gcc.so" "$room/clang.so"
   HLR_PRELOAD=$(gcc -print-file-name=libasan.so):$(gcc -print-file-name=libubsan.so)
   export HLR_PRELOAD
   row "${first[@]}" &
   row "${second[@]}"
   wait
-  for name in "${first[@]}" "${second[@]}"; do
-    echo "${name%%=*}:"
-    counted cat "$room/${name%%=*}.said"
+  for one in "${first[@]}" "${second[@]}"; do
+    echo "${one/=/ of }:"
+    counted cat "$room/$one.said"
   done
 }
 
@@ -67,7 +68,6 @@ archive_built || finish
 compilers
 blocks
 for needed in redis-server redis-sentinel redis-cli openssl python3; do tool "$needed" 'the module hlr.so in servers' || finish; done
-module refusing.so gcc "${refusing[@]}" || finish
 module sanitized.so gcc "${refusing[@]}" "${sanitizers[@]}" || finish
 [ ! -f "$room/gcc.so" ] || servers
 finish

@@ -1,8 +1,6 @@
 """Damaged bytes: payloads of RESTORE and blocks of AOF files are refused, or are rows in range with right counts.
 
-    hostile.py TESTED_MODULE [PAYLOADS FILES]
-
-The module may be built with sanitizers; HLR_PRELOAD is then their library, which the servers load first.
+    hostile.py SANITIZED_MODULE [PAYLOADS FILES]
 """
 import os
 import random
@@ -16,8 +14,6 @@ from model import Model
 from resp import Connection, Error, code, info
 from servers import Server, wait_for
 
-SANITIZED = {"LD_PRELOAD": os.environ.get("HLR_PRELOAD", ""), "ASAN_OPTIONS": "detect_leaks=0:abort_on_error=1:exitcode=99",
-             "UBSAN_OPTIONS": "print_stacktrace=1:halt_on_error=1"}
 KEY = "good"
 
 
@@ -111,7 +107,7 @@ class Files(threading.Thread):
 
     def run(self):
         drawn = random.Random(self.number)
-        server = Server(f"files{self.number}", self.module, "--appendonly", "yes", environment=SANITIZED)
+        server = Server(f"files{self.number}", self.module, "--appendonly", "yes")
         folder = os.path.join(server.folder, "appendonlydir")
         base = os.path.join(folder, next(name for name in os.listdir(folder) if ".base." in name))
         for _ in range(self.count):
@@ -170,10 +166,9 @@ def words(server, count):
 def main():
     module = sys.argv[1]
     many, few = (int(word) for word in (sys.argv[2:] or ("4000", "150")))
-    server = Server("hostile", module, environment=SANITIZED)
-    if SANITIZED["LD_PRELOAD"]:
-        with open(f"/proc/{server.child.pid}/maps") as maps:
-            check("the server has the sanitizers", {"libasan.so", "libubsan.so"} <= set(re.findall(r"lib[a-z]*san\.so", maps.read())))
+    server = Server("hostile", module)
+    with open(f"/proc/{server.child.pid}/maps") as maps:
+        check("the server has the sanitizers", {"libasan.so", "libubsan.so"} <= set(re.findall(r"lib[a-z]*san\.so", maps.read())))
     payloads(server, many)
     aof = aof_of(server)
     blocks(server, aof[0][aof[1]:aof[2]], many)

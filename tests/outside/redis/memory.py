@@ -1,6 +1,6 @@
 """Memory: maxmemory, and each allocation refused in turn, on a master, on its replica and while data is loaded.
 
-    memory.py TESTED_MODULE
+    memory.py SANITIZED_MODULE
 """
 import random
 import sys
@@ -137,33 +137,38 @@ def values(one):
     same("what they made at last", *one("DEBUG", "DIGEST-VALUE", "v", "w"))
 
 
+def grow(one, name, replica, first):
+    """Adds subscribers until the replica has ended, which takes one that needs memory."""
+    for number in range(first, first + 400):
+        fields = (number, number, "0" * 10, "0" * 10, "0" * 20, 1, 1)
+        words = fields if name == "HLR.ADDSUB" else (",".join(map(str, ("sub", *fields))),)
+        one(name, "u", *words)
+        if replica.child.poll() is not None:
+            return
+
+
 def replica_ends(module, master):
     """A replica that is refused memory for what its master did ends, and says why."""
-    for name, words in (("HLR.ADDSUB", None), ("HLR.ADD", None), ("RESTORE", None), ("COPY", ("COPY", "u", "w2"))):
+    one, binary = master.connection(), master.connection(binary=True)
+    for number, name in enumerate(("HLR.ADDSUB", "HLR.ADD", "RESTORE", "COPY")):
         replica = Server(f"ends_{name}", module, "--replicaof", f"127.0.0.1 {master.port}")
-        one = master.connection(binary=False)
         wait_for("the replica is there", lambda: replica.info("replication")["master_link_status"] == "up")
         with replica.connection() as two:
             two("HLR.REFUSE", 0)
         if name == "RESTORE":
-            binary = master.connection(binary=True)
             same("RESTORE", binary("RESTORE", "v2", 0, binary("DUMP", "u")), b"OK")
+        elif name == "COPY":
+            same("COPY", one("COPY", "u", "w2"), 1)
         else:
-            for number in range(5000, 5200):
-                sub = (number, number, "0" * 10, "0" * 10, "0" * 20, 1, 1)
-                one(*(words or (name, "u", *(sub if name == "HLR.ADDSUB" else (",".join(map(str, ("sub", *sub))),)))))
-                if replica.child.poll() is not None or words:
-                    break
-        status = replica.child.wait(PATIENCE)
-        same(f"{name}: the replica's status", status, 1)
+            grow(one, name, replica, 5000 + 1000 * number)
+        same(f"{name}: the replica's status", replica.child.wait(PATIENCE), 1)
         check(f"{name}: its log", "rather than continue with other rows: OOM no memory was left" in replica.log(), replica.log()[-600:])
         same(f"{name}: it is no crash", "crashed by signal" in replica.log(), False)
-        one("DEL", "v2", "w2")
 
 
 def loading_ends(module):
     """A server that is refused memory while it loads its AOF file doesn't start on a part of it."""
-    server = Server("loading", module, "--appendonly", "yes", "--aof-use-rdb-preamble", "no", environment={})
+    server = Server("loading", module, "--appendonly", "yes", "--aof-use-rdb-preamble", "no")
     with server.connection() as one:
         added(one, "hlr", filling(Model(), random.Random(2), 200))
         one("BGREWRITEAOF")
@@ -172,7 +177,7 @@ def loading_ends(module):
     digest, refused = server.digest(), 0
     for place in (0, 1, 3, 7, 15, 31, 63, 127, 10**6):
         server.kill()
-        server.environment = {"HLR_REFUSE": str(place)}
+        server.environment["HLR_REFUSE"] = str(place)
         try:
             server.start()
             break

@@ -15,6 +15,9 @@ from resp import Connection, Error, info
 ROOM = tempfile.mkdtemp(prefix="hlr-redis-")
 PATIENCE = 60
 started = []
+# The environment of a server that loads a module with sanitizers: HLR_PRELOAD has their libraries.
+SANITIZED = {"LD_PRELOAD": os.environ.get("HLR_PRELOAD", ""), "ASAN_OPTIONS": "detect_leaks=0:abort_on_error=1",
+             "UBSAN_OPTIONS": "print_stacktrace=1:halt_on_error=1"}
 
 
 def free_port():
@@ -80,11 +83,13 @@ class Process:
 
 
 class Server(Process):
-    """A redis-server with the module. `options` are those of its command line."""
+    """A redis-server with the module. `options` are those of its command line. A module named sanitized.so was built with
+    sanitizers."""
 
     def __init__(self, name, module, *options, environment=None, folder=ROOM, program=("redis-server",)):
         super().__init__(name, folder)
-        self.module, self.options, self.environment, self.program = module, options, environment, list(program)
+        self.module, self.options, self.program = module, options, list(program)
+        self.environment = {**(SANITIZED if os.path.basename(module) == "sanitized.so" else {}), **(environment or {})}
         for _ in range(5):
             self.port = free_port()
             try:
