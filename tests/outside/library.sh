@@ -98,6 +98,21 @@ no_memory() {
   ended 'calls that take no memory' /dev/null "$room/no_memory"
 }
 
+# Registers of 1 to 16 parts are closed, and give all their memory back: valgrind tells what is left.
+closed() {
+  client closed "$in_library/closed.c" || return
+  ended 'registers of 1 to 16 parts are closed' /dev/null "$room/closed"
+  if tool valgrind 'registers of 1 to 16 parts under it'; then
+    ended 'registers of 1 to 16 parts are closed under valgrind' /dev/null valgrind -q --leak-check=full --error-exitcode=9 "$room/closed"
+  fi
+}
+
+# Trees of height 4 and 5, with keys that fall and keys that are drawn.
+tall() {
+  client tall "$in_library/tall.c" || return
+  ended 'tall trees' /dev/null "$room/tall"
+}
+
 # A register is saved as records, which the client itself and the program load again: each record is as it was.
 saved() {
   tool python3 'a register that is saved' || return
@@ -132,6 +147,8 @@ examples
 clients
 lent
 no_memory
+closed
+tall
 saved
 python
 finish
