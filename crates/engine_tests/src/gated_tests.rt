@@ -3,7 +3,7 @@ use crate::engines::{
     DONE, are_replies, are_rows, closed, engine_over, filled, has_posting, number, plain_row, read,
     read_all, row, row_reply, submit,
 };
-use crate::gates::{Doors, Hold, Meeting, PAUSE, Second, Turns};
+use crate::gates::{Doors, Full, Hold, Meeting, PAUSE, Second, Turns};
 use hlr_core::{Event, Reply};
 use hlr_workers::{Engine, Gate};
 use part_table::{END, Side};
@@ -98,6 +98,68 @@ fn reads_wait_in_the_queue(rt: HostRuntime) {
     drop(register);
     let found = (are_rows(&rt, &replies, &[1; 257]), gate.gave_up());
     assert_eq!(rt; found, (true, false));
+}
+
+/// Submits so many reads of subscriber 1.
+fn submit_reads<R: Threads + Wait + Copy + Send + Sync + 'static>(
+    rt: &R,
+    engine: &mut Engine<Full>,
+    count: u32,
+) {
+    for _ in 0..count {
+        let _number = submit(rt, engine, read(1));
+    }
+}
+
+/// Fills the queue of the worker, which is held up at its first read, with 16 messages of so many reads, and has 16 more
+/// reads held. Then one more read is submitted: whether that waited until the worker went on, and the replies to all.
+fn wait_for_place<R: Threads + Wait + Copy + Send + Sync + 'static>(
+    rt: &R,
+    engine: &mut Engine<Full>,
+    gate: &Full,
+    reads: u32,
+) -> (bool, Vec<(u64, Reply)>) {
+    submit_reads(rt, engine, 1);
+    gate.meet();
+    for _ in 0..16u32 {
+        submit_reads(rt, engine, reads);
+        let _sight = engine.sight();
+    }
+    submit_reads(rt, engine, 16);
+    gate.begin_wait();
+    submit_reads(rt, engine, 1);
+    let has_waited = gate.has_left();
+    gate.end_wait();
+    (has_waited, engine.settle(rt))
+}
+
+/// Asserts that a submit waits for a place behind 16 messages of so many reads, and goes on as soon as the worker has
+/// taken one of them out, while that one isn't done yet.
+fn expect_wait<R: Threads + Wait + Abort + Copy + Send + Sync + 'static>(
+    rt: &R,
+    alloc: Global,
+    reads: u32,
+    s_ids: &[u64],
+) {
+    let gate = Arc::new(alloc, Full::new()).expect(rt, "a gate");
+    let mut engine = engine_over(rt, alloc, filled(rt, alloc, 1, &[1]), &gate);
+    let (has_waited, replies) = wait_for_place(rt, &mut engine, &gate, reads);
+    let (register, _none) = engine.close(rt);
+    drop(register);
+    let found = (has_waited, are_rows(rt, &replies, s_ids), gate.gave_up());
+    assert_eq!(rt; found, (true, true, false));
+}
+
+// It is also run with threads that go on late once they have woken another one (`wakes.sh`).
+#[test]
+fn place_that_was_made_is_told(rt: HostRuntime) {
+    expect_wait(&rt, rt.alloc(), 16, &[1; 274]);
+}
+
+// A sight pushes what is held, so the messages have 8 jobs each, and half as many jobs fill the queue.
+#[test]
+fn half_full_messages_fill_the_queue(rt: HostRuntime) {
+    expect_wait(&rt, rt.alloc(), 8, &[1; 146]);
 }
 
 /// Asserts the replies to reads of parts with a subscriber each, where all workers but the last part's are held up

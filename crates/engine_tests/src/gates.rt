@@ -178,6 +178,75 @@ impl Gate for Second {
     }
 }
 
+/// A gate that holds a worker up before its first job, until the caller is about to wait for a place in the worker's full
+/// queue, and before its second job, until the caller has gone on, for which the second job was taken out of the queue.
+#[derive(Drop)]
+pub struct Full {
+    first: Latch,
+    wait: Latch,
+    has_left: AtomicBool,
+    place: Latch,
+}
+
+impl Full {
+    /// A gate to which no job has come.
+    pub fn new() -> Self {
+        Full {
+            first: Latch::new(),
+            wait: Latch::new(),
+            has_left: AtomicBool::new(false),
+            place: Latch::new(),
+        }
+    }
+
+    /// Waits until the worker has come to its first job.
+    pub fn meet(&self) {
+        self.first.wait();
+    }
+
+    /// Has the worker go on from its first job, once it has yielded until a caller that waits has fallen asleep.
+    pub fn begin_wait(&self) {
+        self.wait.let_go();
+    }
+
+    /// Whether the worker has gone on from its first job.
+    pub fn has_left(&self) -> bool {
+        self.has_left.load(Ordering::SeqCst)
+    }
+
+    /// Has the worker go on from its second job.
+    pub fn end_wait(&self) {
+        self.place.let_go();
+    }
+
+    /// Whether somebody gave up waiting.
+    pub fn gave_up(&self) -> bool {
+        self.first.gave_up() || self.wait.gave_up() || self.place.gave_up()
+    }
+
+    /// What the worker does before its first job.
+    fn hold_up(&self) {
+        self.first.let_go();
+        self.wait.wait();
+        for _ in 0..PAUSE {
+            thread::yield_now();
+        }
+        self.has_left.store(true, Ordering::SeqCst);
+    }
+}
+
+impl Gate for Full {
+    fn before(&self, _part: u8, seq: u64) {
+        if seq == 0 {
+            self.hold_up();
+        } else if seq == 1 {
+            self.place.wait();
+        }
+    }
+
+    fn after(&self, _part: u8, _seq: u64) {}
+}
+
 /// A gate that counts the jobs that are done.
 #[derive(Drop)]
 pub struct Tally {
