@@ -12,11 +12,7 @@ impl Register {
     /// Writes the first rows of a table whose key isn't below one into a list, in key order and each as what the list
     /// is of: as many as there are, and as the list has room for, and tells how many. Behind them the list stays as it
     /// was. Rows of loose pieces are among them. It takes no memory.
-    pub fn write_rows<V: TableRow, T: FromRow<V>>(
-        &self,
-        from: &KeyFields,
-        rows: &mut [T],
-    ) -> usize
+    pub fn write_rows<V: TableRow, T: FromRow<V>>(&self, from: &KeyFields, rows: &mut [T]) -> usize
         requires { AllHome self.now.owners }
         ensures { AreFilled (map T.of_row (rows_listed V.fields from.now (V.table (book_in self.now.owners)))) rows.old result rows.new }
     {

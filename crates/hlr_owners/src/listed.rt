@@ -48,11 +48,7 @@ fn write_rows_in<V: TableRow, T: FromRow<V>>(
 impl Owners {
     /// Writes the first rows of a table from a key on into a list, in key order: as many as there are, and as it has
     /// room for, and tells how many. Behind them the list stays as it was. It takes no memory.
-    pub fn write_rows<V: TableRow, T: FromRow<V>>(
-        &self,
-        from: &KeyFields,
-        rows: &mut [T],
-    ) -> usize
+    pub fn write_rows<V: TableRow, T: FromRow<V>>(&self, from: &KeyFields, rows: &mut [T]) -> usize
         requires { AllHome self.now.owners }
         ensures { AreFilled (map T.of_row (rows_listed V.fields from.now (V.table (book_in self.now.owners)))) rows.old result rows.new }
     {

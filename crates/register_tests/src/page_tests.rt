@@ -19,9 +19,11 @@ fn fill(register: &mut Register) -> u64 {
     for turn in 0..COUNT {
         let s_id = COUNT - turn;
         let kind = 1 + s_id % 4;
-        let (Ok(subscriber), Ok(facility), Ok(sub_nbr)) =
-            (row(s_id, s_id, 1), facility_row(s_id, kind, 1), number(s_id))
-        else {
+        let (Ok(subscriber), Ok(facility), Ok(sub_nbr)) = (
+            row(s_id, s_id, 1),
+            facility_row(s_id, kind, 1),
+            number(s_id),
+        ) else {
             return 0;
         };
         let replies = [
@@ -77,7 +79,11 @@ fn count_forwardings(register: &Register, rows: &mut [Forwarding]) -> Option<u64
         let count = register.next_forwardings(shown, kind, 9, rows);
         for row in rows.iter().take(count) {
             shown = shown.wrapping_add(1);
-            let key = (u64::from(row.s_id()), u64::from(row.sf_type()), row.start_time());
+            let key = (
+                u64::from(row.s_id()),
+                u64::from(row.sf_type()),
+                row.start_time(),
+            );
             if key != (shown, 1 + shown % 4, 8) {
                 return None;
             }
@@ -108,7 +114,11 @@ fn expect_all(rt: &impl Abort, register: &Register) {
 /// Gives rows of two parts away as three pieces: how many of the events were done.
 fn give_pieces(register: &mut Register) -> u64 {
     let mut done = 0u64;
-    for (part, side, at) in [(0, Side::High, 200), (1, Side::Low, 300), (2, Side::High, 1_100)] {
+    for (part, side, at) in [
+        (0, Side::High, 200),
+        (1, Side::Low, 300),
+        (2, Side::High, 1_100),
+    ] {
         let reply = ask(register, Event::Give { part, side, at });
         done = done.wrapping_add(u64::from(matches!(reply, Reply::Given { .. })));
     }

@@ -73,7 +73,13 @@ impl TableRow for Subscriber {
         place: usize,
     ) -> usize {
         let mut page = ArrayVec::new();
-        write_from(&part.rows.subscribers, from.packed(), &mut page, rows, place)
+        write_from(
+            &part.rows.subscribers,
+            from.packed(),
+            &mut page,
+            rows,
+            place,
+        )
     }
 
     ghost use Rattle.std.specs.Prelude.{refl};
@@ -139,7 +145,13 @@ impl TableRow for Forwarding {
         place: usize,
     ) -> usize {
         let mut page = ArrayVec::new();
-        write_from(&part.rows.forwardings, from.packed(), &mut page, rows, place)
+        write_from(
+            &part.rows.forwardings,
+            from.packed(),
+            &mut page,
+            rows,
+            place,
+        )
     }
 
     ghost use Rattle.std.specs.Prelude.{refl};

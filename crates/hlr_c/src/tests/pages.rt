@@ -41,14 +41,7 @@ fn forty(alloc: Global, handle: &mut Hlr) -> u64 {
 
 /// A page in the first places of forty, so many of which are passed: whether it was done, tells so many rows, and has
 /// those from a subscriber on in as many places, and in the others what was there before.
-fn is_page(
-    alloc: Global,
-    handle: &mut Hlr,
-    from: u64,
-    room: usize,
-    first: u64,
-    want: u64,
-) -> bool {
+fn is_page(alloc: Global, handle: &mut Hlr, from: u64, room: usize, first: u64, want: u64) -> bool {
     let mut rows = [OTHER_ROW; 42];
     let mut count = 99;
     let code = match rows.get_mut(..room) {
@@ -142,8 +135,23 @@ fn other_tables(rt: HostRuntime) -> Result<(), Fail> {
     let (mut counts, mut ends) = ([9; 3], [9; 3]);
     let codes = [
         hlr_next_accesses(alloc, &mut handle, 7, 3, &mut accesses, &mut counts[0]),
-        hlr_next_facilities(alloc, &mut handle, 6, u64::MAX, &mut facilities, &mut counts[1]),
-        hlr_next_forwardings(alloc, &mut handle, 7, 2, 1, &mut forwardings, &mut counts[2]),
+        hlr_next_facilities(
+            alloc,
+            &mut handle,
+            6,
+            u64::MAX,
+            &mut facilities,
+            &mut counts[1],
+        ),
+        hlr_next_forwardings(
+            alloc,
+            &mut handle,
+            7,
+            2,
+            1,
+            &mut forwardings,
+            &mut counts[2],
+        ),
         hlr_next_accesses(alloc, &mut handle, 7, 4, &mut accesses, &mut ends[0]),
         hlr_next_facilities(alloc, &mut handle, 7, 3, &mut facilities, &mut ends[1]),
         hlr_next_forwardings(alloc, &mut handle, 7, 2, 17, &mut forwardings, &mut ends[2]),
