@@ -23,6 +23,7 @@ NO_COMMAND = {
     "hlr_subscriber_data_many": ["FIELD"], "hlr_new_destination_many": ["FIELD"], "hlr_access_data_many": ["FIELD"],
     "hlr_find": ["FIELD", "NO_NUMBER"], "hlr_facility_data": ["FIELD", "MOVING", "NO_FACILITY"],
     "hlr_forwarding": ["FIELD", "MOVING", "NO_FORWARDING"], "hlr_next_subscriber": ["NO_SUBSCRIBER"],
+    "hlr_next_subscribers": [], "hlr_next_accesses": [], "hlr_next_facilities": [], "hlr_next_forwardings": [], "hlr_width": [],
     "hlr_look": [], "hlr_lend": ["STILL_OPEN", "NO_PART", "MEMORY"], "hlr_back": ["NO_PART"], "hlr_home": [],
     "hlr_part_range": [], "hlr_part_subscriber_data_many": ["FIELD"], "hlr_part_new_destination_many": ["FIELD"],
     "hlr_part_access_data_many": ["FIELD"],
@@ -31,7 +32,7 @@ NO_COMMAND = {
 BEFORE_AWAY = {"STILL_OPEN", "FIELD", "NO_NUMBER", "NO_PART", "MOVING", "OUT_OF_RANGE", "MANY_PIECES", "MANY_PARTS",
                "NO_PIECE", "NOT_ADJACENT"}
 # The calls of many answer AWAY in places alone.
-NEVER_AWAY = {"hlr_open", "hlr_close", "hlr_find", "hlr_look", "hlr_regions", "hlr_home", "hlr_part_range",
+NEVER_AWAY = {"hlr_open", "hlr_close", "hlr_find", "hlr_look", "hlr_regions", "hlr_width", "hlr_home", "hlr_part_range",
               "hlr_subscriber_data_many", "hlr_new_destination_many", "hlr_access_data_many",
               "hlr_part_subscriber_data_many", "hlr_part_new_destination_many", "hlr_part_access_data_many"}
 # The calls on a part, each with that on a register of which it has the refusals but for these, and ELSEWHERE behind FIELD.
