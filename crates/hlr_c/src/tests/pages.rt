@@ -49,13 +49,15 @@ fn is_page(alloc: Global, handle: &mut Hlr, from: u64, room: usize, first: u64, 
         None => AWAY,
     };
     let mut as_wanted = code == DONE && count == want;
+    let places = &rows[..];
     for place in 0..42u64 {
         let s_id = if place < want {
             first.wrapping_add(place)
         } else {
             999
         };
-        as_wanted = as_wanted && rows[place as usize].s_id == s_id;
+        let found = &places[place as usize];
+        as_wanted = as_wanted && found.s_id == s_id;
     }
     as_wanted
 }
