@@ -1,0 +1,26 @@
+-- Groups of rows: the rows of one subscriber, or of one facility, in the order of their keys. A group doesn't keep to
+-- whom it belongs, so the fields that all of its rows share are 0 in it.
+use Rattle.std.specs.Prelude.{◌≡◌, ℕ, ◌≤◌, List, Result, Ok, Err, None, IsSome}
+use Rattle.std.specs.List.{AllByRecursion}
+use Rattle.tatp_rows.specs.Ordered.{IsOrderedBy, row_at, with_row}
+use Rattle.tatp_rows.specs.Rows.{AccessInfoRow}
+use Rattle.tatp_rows.specs.declared.refusal.Refusal.{Refusal}
+use Rattle.tatp_rows.specs.declared.refusal.Refusal.TheVariants.{Exists}
+
+-- the key of an Access_Info row among those of its subscriber
+abbrev pub access_type : AccessInfoRow → ℕ
+access_type row = row.ai_type
+
+-- the row as one of a subscriber; 0 stands for none
+abbrev pub access_with : ℕ → AccessInfoRow → AccessInfoRow
+access_with s_id row = record row { s_id = s_id }
+
+-- the rows of a group: at most one for each type, with no subscriber
+pub record AreAccesses (rows : List AccessInfoRow) : Type 0 where
+  pub ordered : IsOrderedBy access_type rows
+  pub each : AllByRecursion (λ row. (row.s_id ≡ 0) × (1 ≤ row.ai_type) × (row.ai_type ≤ 4)) rows
+
+-- a row is put among others, or is refused because there is one with its key
+abbrev pub IsPut : {X : Type 0} → (X → ℕ) → X → List X → List X → Result (Unit {0}) Refusal → Type 0
+IsPut key row before after (Ok u) = (row_at key (key row) before ≡ None) × (after ≡ with_row key row before)
+IsPut key row before after (Err why) = (why ≡ Exists) × IsSome (row_at key (key row) before) × (after ≡ before)

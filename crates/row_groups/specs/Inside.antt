@@ -1,0 +1,2 @@
+pub mod AccessPlaces
+pub mod Places
