@@ -10,12 +10,14 @@ pub use Rattle.std.specs.Prelude.{Err, IsTrue, None, Result, Ok, Some, if◌then
 pub use Rattle.tatp_rows.proofs.OrderedLemmas.{absent_below, by_test, each-weaker, with_row_at_absent, without_row_absent}
 pub use Rattle.tatp_rows.proofs.SpanLemmas.{with_row-front}
 pub use Rattle.tatp_rows.specs.Ordered.{IsOrderedBy, row_at, with_row, with_row_at, without_row}
-pub use Rattle.tatp_rows.specs.Rows.{AccessInfoRow, is_between}
+pub use Rattle.tatp_rows.specs.Rows.{AccessInfoRow, SpecialFacilityRow, is_between}
 pub use Rattle.row_groups.specs.Inside.Places.{HasKeys, filled, filled-above, filled-behind, filled-found, filled-ordered, placed}
-pub use Rattle.tatp_rows.proofs.RowLemmas.{between_is, both_from}
+pub use Rattle.tatp_rows.proofs.RowLemmas.{between_is, both_from, facility_ranges, forwarding_ranges}
 pub use Rattle.tatp_rows.specs.Spans.{keys_from}
 pub use Rattle.tatp_rows.specs.declared.refusal.Refusal.TheVariants.{Exists}
 pub use Rattle.tatp_rows.specs.declared.refusal.Refusal.{Refusal}
-pub use Rattle.row_groups.specs.Groups.{AreAccesses, IsPut, access_type, access_with}
+pub use Rattle.row_groups.specs.Groups.{AreAccesses, AreFacilities, IsPut, access_type, access_with, facility_type, facility_with}
 pub use Rattle.row_groups.specs.Inside.AccessPlaces.{access_back, access_data, access_keys, access_places, access_row}
+pub use Rattle.row_groups.specs.Inside.FacilityPlaces.{facility_back, facility_data, facility_keys, facility_places, facility_row, facility_row_back}
+pub use Rattle.row_groups.specs.declared.facilities.FacilityData.{FacilityData}
 pub use Rattle.row_groups.specs.declared.accesses.AccessData.{AccessData}

@@ -1,3 +1,5 @@
 pub mod Common
+pub mod FacilityLemmas
 pub mod FilledLemmas
+pub mod GroupLemmas
 pub mod AccessLemmas

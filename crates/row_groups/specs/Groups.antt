@@ -1,9 +1,9 @@
 -- Groups of rows: the rows of one subscriber, or of one facility, in the order of their keys. A group doesn't keep to
 -- whom it belongs, so the fields that all of its rows share are 0 in it.
-use Rattle.std.specs.Prelude.{◌≡◌, ℕ, ◌≤◌, List, Result, Ok, Err, None, IsSome}
+use Rattle.std.specs.Prelude.{◌≡◌, ℕ, ◌≤◌, ◌==◌, Bool, false, List, Result, Ok, Err, Option, None, Some, IsSome}
 use Rattle.std.specs.List.{AllByRecursion}
 use Rattle.tatp_rows.specs.Ordered.{IsOrderedBy, row_at, with_row}
-use Rattle.tatp_rows.specs.Rows.{AccessInfoRow}
+use Rattle.tatp_rows.specs.Rows.{AccessInfoRow, SpecialFacilityRow}
 use Rattle.tatp_rows.specs.declared.refusal.Refusal.{Refusal}
 use Rattle.tatp_rows.specs.declared.refusal.Refusal.TheVariants.{Exists}
 
@@ -19,6 +19,24 @@ access_with s_id row = record row { s_id = s_id }
 pub record AreAccesses (rows : List AccessInfoRow) : Type 0 where
   pub ordered : IsOrderedBy access_type rows
   pub each : AllByRecursion (λ row. (row.s_id ≡ 0) × (1 ≤ row.ai_type) × (row.ai_type ≤ 4)) rows
+
+-- the key of a Special_Facility row among those of its subscriber
+abbrev pub facility_type : SpecialFacilityRow → ℕ
+facility_type row = row.sf_type
+
+-- the row as one of a subscriber; 0 stands for none
+abbrev pub facility_with : ℕ → SpecialFacilityRow → SpecialFacilityRow
+facility_with s_id row = record row { s_id = s_id }
+
+-- the rows of a group: at most one for each type, with no subscriber
+pub record AreFacilities (rows : List SpecialFacilityRow) : Type 0 where
+  pub ordered : IsOrderedBy facility_type rows
+  pub each : AllByRecursion (λ row. (row.s_id ≡ 0) × (1 ≤ row.sf_type) × (row.sf_type ≤ 4)) rows
+
+-- a facility was found and is active
+abbrev pub is_found_active : Option SpecialFacilityRow → Bool
+is_found_active None = false
+is_found_active (Some row) = row.is_active == 1
 
 -- a row is put among others, or is refused because there is one with its key
 abbrev pub IsPut : {X : Type 0} → (X → ℕ) → X → List X → List X → Result (Unit {0}) Refusal → Type 0

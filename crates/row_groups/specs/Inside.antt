@@ -1,2 +1,3 @@
 pub mod AccessPlaces
+pub mod FacilityPlaces
 pub mod Places

@@ -4,6 +4,8 @@
 #![tactic(auto)]
 
 mod accesses;
+mod facilities;
 mod places;
 
 pub use accesses::Accesses;
+pub use facilities::Facilities;
