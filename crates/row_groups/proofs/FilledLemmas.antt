@@ -1,5 +1,5 @@
 -- Laws of the rows in places: what an edit of a place does to the rows, and how many there are.
-use Rattle.row_groups.proofs.Common.{◌≡◌, refl, ap, subst, ℕ, zero, suc, ◌+◌, ◌<◌, ◌≤◌, List, [], ◌∷◌, ◌++◌, true, false, length, get_or, set, take, Option, Some, None, IsSome, arith, ◌==◌, nat_lt, nat_le, nat_tests, is_some, option_map, option_to_list, AllByRecursion, count_by, sum_by-cons, row_at, with_row, with_row_at, without_row, absent_below, each-weaker, with_row-front, without_row_absent, HasKeys, filled, filled-behind, filled-found, map, keys_from, filter-append, map-append, append-nil, IsPut, Result, Refusal, Ok, Err}
+use Rattle.row_groups.proofs.Common.{Bool, ◌≡◌, ◌≢◌, refl, ap, subst, ℕ, zero, suc, ◌+◌, ◌<◌, ◌≤◌, List, [], ◌∷◌, ◌++◌, true, false, length, get_or, set, take, Option, Some, None, IsSome, arith, ◌==◌, nat_lt, nat_le, nat_tests, is_some, option_map, option_to_list, AllByRecursion, count_by, sum_by-cons, row_at, with_row, with_row_at, without_row, absent_below, each-weaker, with_row-front, without_row_absent, HasKeys, filled, filled-behind, filled-found, map, keys_from, filter, filter-append, map-append, append-nil, IsPut, Result, Refusal, Ok, Err}
 
 module _ {D R : Type 0} (row : ℕ → D → R) (key : R → ℕ) (at : ℕ → ℕ) (keys : HasKeys row key at) where
   -- a row put into a free place
@@ -114,6 +114,14 @@ module _ {D R : Type 0} (row : ℕ → D → R) (key : R → ℕ) (at : ℕ → 
       last None = refl
       last (Some d) = let here = keys.keyed place d in let t : nat_le from (key (row place d)) ≡ true = grind (arith, nat_tests) in rw t refl
 
+  -- the rows that a test chooses, of one place more
+  pub chosen-more : {S : Type 0} (with : R → S) (test : R → Bool) (i n place : ℕ) (ps : List (Option D)) (items chosen new : List S) → i + n ≡ place → n < length ps
+    → items ≡ map with (filter test (filled row i (take n ps))) → chosen ≡ map with (filter test (option_to_list (row_at key (at place) (filled row i ps)))) → new ≡ items ++ chosen
+    → new ≡ map with (filter test (filled row i (take (n + 1) ps)))
+  chosen-more with test i n place ps items chosen new e within so_far more step =
+      let one : n + 1 ≡ suc n = omega arith in
+      rw (one, step, so_far, more, filled-found row key at keys i n place ps e, filled-more row i n place ps e within, filter-append, map-append) refl
+
   -- a place below the key adds none
   pub listed-same : {S : Type 0} (with : R → S) (from i n place : ℕ) (ps : List (Option D)) → i + n ≡ place → n < length ps → at place < from
       → map with (keys_from key from (filled row i (take n ps))) ≡ map with (keys_from key from (filled row i (take (n + 1) ps)))
@@ -143,3 +151,13 @@ none_mapped f (Some x) none = absurd cc
 pub some_mapped : {X Y : Type 0} (f : X → Y) (y : Y) (found : Option X) → Some y ≡ option_map f found → IsSome found
 some_mapped f y None some = absurd cc
 some_mapped f y (Some x) some = refl
+
+-- a key of no place has no row
+pub filled-missing : {D R : Type 0} (row : ℕ → D → R) (key : R → ℕ) (at : ℕ → ℕ) → HasKeys row key at → (k i : ℕ) (ps : List (Option D)) → ((place : ℕ) → i ≤ place → place < i + length ps → at place ≢ k) → row_at key k (filled row i ps) ≡ None
+filled-missing row key at keys k i [] other = refl
+filled-missing row key at keys k i (None ∷ ps) other = filled-missing row key at keys k (suc i) ps (λ place from below. other place (omega arith) (omega arith))
+filled-missing row key at keys k i (Some d ∷ ps) other =
+    let here = keys.keyed i d in
+    let differ = other i (omega arith) (omega arith) in
+    let e : (key (row i d) == k) ≡ false = grind (arith, nat_tests) in
+    rw e (filled-missing row key at keys k (suc i) ps (λ place from below. other place (omega arith) (omega arith)))

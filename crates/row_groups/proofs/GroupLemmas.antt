@@ -1,7 +1,7 @@
 -- Laws of groups: what a look at a place, a put and a removal say of the rows, and the rows from a key on, place by
 -- place.
-use Rattle.row_groups.proofs.Common.{◌≡◌, ◌∙◌, ◌≤◌, ◌<◌, ◌+◌, ◌++◌, ℕ, zero, suc, refl, sym, subst, List, Option, arith, length, get_or, get_or_past, set, map, take, take_all, option_map, option_to_list, true, false, IsSome, is_some, Some, None, Ok, Err, Exists, is_between, nat_le, nat_tests, by_test, both_from, absent_below, IsPut, keys_from, row_at, with_row_at, without_row, HasKeys, filled, filled-above, filled-found}
-use Rattle.row_groups.proofs.FilledLemmas.{filled-put, filled-replaced, filled-taken, found-taken, free-found, listed-more, listed-same, taken-found}
+use Rattle.row_groups.proofs.Common.{◌≡◌, ◌∙◌, ◌≤◌, ◌<◌, ◌+◌, ◌++◌, ℕ, zero, suc, refl, sym, subst, List, Option, arith, length, get_or, get_or_past, set, map, take, take_all, option_map, option_to_list, true, false, Bool, IsSome, is_some, Some, None, Ok, Err, Exists, is_between, nat_le, nat_tests, by_test, both_from, absent_below, IsPut, filter, keys_from, row_at, with_row_at, without_row, HasKeys, filled, filled-above, filled-found}
+use Rattle.row_groups.proofs.FilledLemmas.{chosen-more, filled-put, filled-replaced, filled-taken, found-taken, free-found, listed-more, listed-same, taken-found}
 
 module _ {D R : Type 0} (row : ℕ → D → R) (key : R → ℕ) (at : ℕ → ℕ) (keys : HasKeys row key at) where
   -- a row is put into the free place of its key
@@ -50,6 +50,26 @@ module _ {D R : Type 0} (row : ℕ → D → R) (key : R → ℕ) (at : ℕ → 
         let all = take_all n ps past in
         subst (λ qs. items ≡ map with (keys_from key from (filled row i qs))) all
         (subst (λ qs. items ≡ map with (keys_from key from (filled row i (take n qs)))) same so_far)
+
+  module _ {S : Type 0} (with : R → S) (places : List R → List (Option D)) (test : R → Bool) (i : ℕ) (ps : List (Option D)) (same : places (filled row i ps) ≡ ps) where
+    -- the rows that a test chooses, of one place more
+    pub chosen_more : (n place : ℕ) (items chosen new : List S) → i + n ≡ place → n < length ps
+      → items ≡ map with (filter test (filled row i (take n (places (filled row i ps)))))
+      → chosen ≡ map with (filter test (option_to_list (row_at key (at place) (filled row i ps)))) → new ≡ items ++ chosen
+      → new ≡ map with (filter test (filled row i (take (n + 1) (places (filled row i ps)))))
+    chosen_more n place items chosen new e within so_far more step =
+        subst (λ qs. new ≡ map with (filter test (filled row i (take (n + 1) qs)))) (sym same)
+        (chosen-more row key at keys with test i n place ps items chosen new e within
+        (subst (λ qs. items ≡ map with (filter test (filled row i (take n qs)))) same so_far) more step)
+
+    -- and of all places
+    pub chosen_whole : (n : ℕ) (items : List S) → length ps ≤ n
+      → items ≡ map with (filter test (filled row i (take n (places (filled row i ps)))))
+      → items ≡ map with (filter test (filled row i ps))
+    chosen_whole n items past so_far =
+        let all = take_all n ps past in
+        subst (λ qs. items ≡ map with (filter test (filled row i qs))) all
+        (subst (λ qs. items ≡ map with (filter test (filled row i (take n qs)))) same so_far)
 
 -- no row of four places has a type that is out of range
 pub no_type : {D R : Type 0} (row : ℕ → D → R) (key : R → ℕ) (keys : HasKeys row key (λ place. place)) (k : ℕ) (ps : List (Option D)) → length ps ≡ 4 → is_between 1 4 k ≡ false → row_at key k (filled row 1 ps) ≡ None

@@ -5,7 +5,10 @@
 
 mod accesses;
 mod facilities;
+mod forwarding_word;
+mod forwardings;
 mod places;
 
 pub use accesses::Accesses;
 pub use facilities::Facilities;
+pub use forwardings::Forwardings;
