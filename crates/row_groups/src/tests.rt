@@ -1,5 +1,8 @@
 //! What no clause says: that each call can succeed. Groups with every pattern of places, put in by several orders, are
 //! compared with plain lists of rows in the order of their keys.
+ghost use Rattle.std.specs.Prelude.{IsTrue};
+ghost use Rattle.tatp_rows.specs.Rows.{is_between};
+
 use super::*;
 use arrayvec::ArrayVec;
 use std::process::Abort;
@@ -148,6 +151,157 @@ fn patterns_of_access(rt: HostRuntime) -> Result<(), Fail> {
         for pattern in 0..16_u8 {
             if !is_access_right(order, pattern)? {
                 wrong = wrong.saturating_add(1);
+            }
+        }
+    }
+    assert_eq!(rt; wrong, 0);
+    Ok(())
+}
+
+/// Whether a group has the rows of a pattern, by each of the calls that read.
+fn has_facilities(group: &Facilities, pattern: u8, marked: u8) -> Result<bool, Refusal> {
+    let mut same = group.len() == plain_facilities(pattern, marked, 0)?.len();
+    for from in 0..7_u8 {
+        let rows = plain_facilities(pattern, marked, from)?;
+        same &= group.rows_from(S_ID, from).as_slice() == rows.as_slice();
+        let found = rows
+            .as_slice()
+            .first()
+            .copied()
+            .filter(|row| row.sf_type() == from);
+        same &= group.get(S_ID, from) == found;
+        same &= group.is_active(from) == found.is_some_and(|row| row.is_active());
+    }
+    Ok(same)
+}
+
+/// Whether a group of the types in a pattern, which come in an order, is right before and after each change.
+fn are_facilities_right(order: &[(u8, u8); 4], pattern: u8) -> Result<bool, Refusal> {
+    let mut group = Facilities::default();
+    for (sf_type, bit) in *order {
+        if pattern & bit != 0 {
+            group.insert(&facility(sf_type, false)?)?;
+        }
+    }
+    let mut right = has_facilities(&group, pattern, 0)?;
+    for (sf_type, bit) in *order {
+        let (row, other) = (facility(sf_type, false)?, facility(sf_type, true)?);
+        let there = pattern & bit != 0;
+        let old = if there { Some(row) } else { None };
+        let mut changed = group;
+        right &= changed.insert(&other).is_ok() != there;
+        right &= has_facilities(&changed, pattern | bit, bit & !pattern)?;
+        let mut changed = group;
+        right &= changed.replace(&other) == old;
+        right &= has_facilities(&changed, pattern, bit & pattern)?;
+        let mut changed = group;
+        right &= changed.remove(S_ID, sf_type) == old;
+        right &= has_facilities(&changed, pattern & !bit, 0)?;
+        right &= has_facilities(&Facilities::of(&other), bit, bit)?;
+    }
+    Ok(right)
+}
+
+#[test]
+fn patterns_of_facilities(rt: HostRuntime) -> Result<(), Fail> {
+    let mut wrong = 0_u8;
+    for order in &ORDERS {
+        for pattern in 0..16_u8 {
+            if !are_facilities_right(order, pattern)? {
+                wrong = wrong.saturating_add(1);
+            }
+        }
+    }
+    assert_eq!(rt; wrong, 0);
+    Ok(())
+}
+
+/// The numbers of the rows that take a call.
+fn plain_numbers(
+    rows: &ArrayVec<Forwarding, 3>,
+    start_time: u8,
+    end_time: u8,
+) -> ArrayVec<Number, 3> {
+    let mut numbers = ArrayVec::new();
+    for row in rows.as_slice() {
+        if row.start_time() <= start_time && end_time < row.end_time() {
+            let _ = numbers.try_push(row.numberx());
+        }
+    }
+    numbers
+}
+
+/// Whether a group has the rows of a pattern, by each of the calls that read.
+fn has_forwardings(
+    group: &Forwardings,
+    sf_type: u8,
+    pattern: u8,
+    marked: u8,
+) -> Result<bool, Refusal>
+    requires { IsTrue (is_between 1 4 sf_type) }
+{
+    let all = plain_forwardings(sf_type, pattern, marked, 0)?;
+    let mut same = group.len() == all.len();
+    let mut ends = [0; 3];
+    for start_time in 0..26_u8 {
+        let rows = plain_forwardings(sf_type, pattern, marked, start_time)?;
+        same &= group.rows_from(S_ID, sf_type, start_time).as_slice() == rows.as_slice();
+        let found = rows
+            .as_slice()
+            .first()
+            .copied()
+            .filter(|row| row.start_time() == start_time);
+        same &= group.get(S_ID, sf_type, start_time) == found;
+        if let Some(row) = found {
+            ends[usize::from(start_time / 8) % 3] = row.end_time();
+        }
+        for end_time in 0..26_u8 {
+            let numbers = plain_numbers(&all, start_time, end_time);
+            same &= group.destinations(start_time, end_time).as_slice() == numbers.as_slice();
+        }
+    }
+    Ok(same && group.ends() == ends)
+}
+
+/// Whether a group of the start times in a pattern, which come in an order, is right before and after each change.
+fn are_forwardings_right(order: &[(u8, u8); 3], sf_type: u8, pattern: u8) -> Result<bool, Refusal>
+    requires { IsTrue (is_between 1 4 sf_type) }
+{
+    let mut group = Forwardings::default();
+    for (start_time, bit) in *order {
+        if pattern & bit != 0 {
+            group.insert(&forwarding(sf_type, start_time, false)?)?;
+        }
+    }
+    let mut right = has_forwardings(&group, sf_type, pattern, 0)?;
+    for (start_time, bit) in *order {
+        let row = forwarding(sf_type, start_time, false)?;
+        let other = forwarding(sf_type, start_time, true)?;
+        let there = pattern & bit != 0;
+        let old = if there { Some(row) } else { None };
+        let mut changed = group;
+        right &= changed.insert(&other).is_ok() != there;
+        right &= has_forwardings(&changed, sf_type, pattern | bit, bit & !pattern)?;
+        let mut changed = group;
+        right &= changed.replace(&other) == old;
+        right &= has_forwardings(&changed, sf_type, pattern, bit & pattern)?;
+        let mut changed = group;
+        right &= changed.remove(S_ID, sf_type, start_time) == old;
+        right &= has_forwardings(&changed, sf_type, pattern & !bit, 0)?;
+        right &= has_forwardings(&Forwardings::of(&other), sf_type, bit, bit)?;
+    }
+    Ok(right)
+}
+
+#[test]
+fn patterns_of_forwardings(rt: HostRuntime) -> Result<(), Fail> {
+    let mut wrong = 0_u8;
+    for order in &HOURS {
+        for sf_type in 1..5_u8 {
+            for pattern in 0..8_u8 {
+                if !are_forwardings_right(order, sf_type, pattern)? {
+                    wrong = wrong.saturating_add(1);
+                }
             }
         }
     }
