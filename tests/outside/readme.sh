@@ -26,7 +26,15 @@ at_top() { grep -qE '(^|[^A-Za-z0-9_/.-])(\./)?(bench|crates|docs|examples|pytho
 # needs COMMAND: whether the built programs that it names are there, and the server if it asks one.
 needs() {
   local programs program
-  if [[ $1 == *redis-cli* && -z $server ]]; then return 1; fi
+  if [[ $1 =~ redis-cli|redis/ && -z $server ]]; then return 1; fi
+  if [[ $1 == /usr/bin/python3* ]] && ! /usr/bin/python3 -c 'import redis' 2> /dev/null; then
+    skip python3-redis "$1"
+    return 1
+  fi
+  if [[ $1 == *-lhiredis* && ! -f /usr/include/hiredis/hiredis.h ]]; then
+    skip libhiredis-dev "$1"
+    return 1
+  fi
   mapfile -t programs < <(grep -oE 'crates/[a-z_]+/out/[A-Za-z_.]+' <<< "$1" | sort -u)
   for program in ${programs[@]+"${programs[@]}"}; do
     built "$program" "run rt run in ${program%/out/*}" || return
@@ -65,7 +73,7 @@ server_started() {
   chmod +x "$room/bin/redis-cli"
   redis-server "$settings" --bind 127.0.0.1 --port "$port" --dir "$room/server" > "$room/server/log" 2>&1 &
   server=$!
-  export HLR_REDIS_PORT=$port PATH=$room/bin:$PATH
+  export REDIS_URL=redis://127.0.0.1:$port PATH=$room/bin:$PATH
   for _ in {1..200}; do [ "$(redis-cli PING 2>&1)" != PONG ] || return 0; sleep 0.05; done
   fail 'the server of the pages'
   tail -n 5 "$room/server/log"
