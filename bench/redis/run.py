@@ -15,12 +15,12 @@
 
 It starts servers on free ports of loopback, each in a folder of its own below ROOM (/tmp/bench), and ends them. The
 servers share one processor and the client has another, the last two that this program may use. Times are medians of the
-turns, in which both stores take their turn. It prints tables for docs/SPEED.md. It needs gcc, redis-server and redis-cli.
+turns, in which both stores take their turn. It prints tables for docs/SPEED.md. It needs gcc, redis-server and
+redis-cli.
 """
 import argparse
 import os
 import pathlib
-import random
 import shutil
 import socket
 import statistics
@@ -65,14 +65,15 @@ class Server:
         return done.stdout
 
     def seconds(self, *words):
-        """How long a command takes. Starting redis-cli, which takes some milliseconds, is taken off."""
-        begin = time.monotonic()
-        self.ask("PING")
-        between = time.monotonic()
-        reply = self.ask(*words)
-        if "ERR" in reply:
-            sys.exit(f"{' '.join(words)}: {reply}")
-        return time.monotonic() - between - (between - begin)
+        """How long a command takes, until its reply begins to arrive."""
+        with socket.create_connection(("127.0.0.1", self.port), timeout=PATIENCE) as one:
+            begin = time.monotonic()
+            one.sendall((" ".join(words) + "\r\n").encode())
+            reply = one.recv(1000)
+            end = time.monotonic()
+        if not reply or reply.startswith(b"-"):
+            sys.exit(f"{' '.join(words)}: {reply!r}")
+        return end - begin
 
     def tatp(self, *words):
         """What the client prints."""

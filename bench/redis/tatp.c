@@ -5,8 +5,8 @@
  *     tatp hlr|hashes PORT SUBSCRIBERS run TRANSACTIONS CONNECTIONS PIPELINE SEED [NAME]
  *
  * Both stores get the same rows and, with the same seed, the same transactions. NAME chooses one kind of them. `load`
- * fills an empty server on loopback. `run` prints transactions a second, the microseconds in which half and 99 in 100 of
- * the pipelines were answered, and the share of errors. bench/redis/run.py starts the servers and calls this program.
+ * fills an empty server on loopback. `run` prints transactions a second, the microseconds in which half and 99 in 100
+ * of the pipelines were answered, and the share of errors. bench/redis/run.py starts the servers and calls this program.
  *
  * Over hashes, a subscriber is a hash at s:S_ID, with its number (n), bits, hexes and bytes (d), locations (m, v),
  * accesses (a1 to a4), facilities (f1 to f4) and forwardings (c10 to c416, by type and start). Its number is a key
