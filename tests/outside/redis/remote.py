@@ -5,7 +5,10 @@ three nodes.
 """
 import doctest
 import io
+import json
 import logging
+import os
+import re
 import sys
 
 import redis
@@ -18,6 +21,7 @@ from servers import Server, command_line, wait_for
 
 FULL = Subscriber(7, 77, bytes([1, 0] * 5), bytes(range(6, 16)), bytes(range(246, 256)), 3, 268435456)
 S_IDS = range(1, 701)
+EXAMPLES = os.path.join(os.path.dirname(__file__), "../../../examples/redis")
 
 
 def refused(what, wanted, call, *words):
@@ -142,6 +146,28 @@ def whole(client):
             check("a record that is refused", "line 2" in str(error), error)
 
 
+def watched(client, register):
+    """The script for prometheus-redis-exporter returns the counts, and each query of the dashboard finds some."""
+    with open(os.path.join(EXAMPLES, "counts.lua")) as file:
+        words = [_text(word) for word in client.eval(file.read(), 0)]
+    told = dict(zip(words[::2], words[1::2]))
+    counts = register.views()[0]
+    for kind, first, count in (("hours", 0, 24), ("areas", 24, 16), ("zones", 40, 32)):
+        same(f"{kind} for the exporter", [int(told[f"{register.key}:{kind}:{place}"]) for place in range(count)],
+             counts[first:first + count])
+    same("rows for the exporter", int(told[register.key + ":rows"]), sum(counts[40:]))
+    with open(os.path.join(EXAMPLES, "grafana.json")) as file:
+        queries = [target["expr"] for panel in json.load(file)["panels"] for target in panel["targets"]]
+    patterns = [pattern for query in queries for pattern in re.findall('redis_script_values{key=~"([^"]+)"}', query)]
+    same("queries of counts", len(patterns), 5)
+    for pattern in patterns:
+        check(f"the exporter has {pattern}", any(re.fullmatch(pattern, key) for key in told))
+
+
+def _text(word):
+    return word if isinstance(word, str) else word.decode()
+
+
 def one_server(module):
     server = Server("one", module)
     for decode in (False, True):
@@ -155,6 +181,7 @@ def one_server(module):
         refusals(register, client)
         memory(server, register)
         counts(register)
+        watched(client, register)
         writes(register)
         whole(client)
         client.close()
