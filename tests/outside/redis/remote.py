@@ -9,7 +9,9 @@ import json
 import logging
 import os
 import re
+import subprocess
 import sys
+import threading
 
 import redis
 
@@ -191,6 +193,33 @@ def is_whole(nodes):
     return all("cluster_state:ok" in one("CLUSTER", "INFO") for node in nodes for one in [node.connection()])
 
 
+def moved_alone(cluster, nodes):
+    """The script of the examples moves one register to each node in turn, while it is read."""
+    register, end = cluster.registers()[5], threading.Event()
+    wanted, wrong = list(register.rows()), []
+
+    def read():
+        while not end.is_set():
+            found = list(register.rows())
+            if found != wanted:
+                wrong.append(found)
+
+    reader = threading.Thread(target=read, daemon=True)
+    reader.start()
+    for node in (*nodes, nodes[0]):
+        place = f"127.0.0.1:{node.port}"
+        done = subprocess.run([os.path.join(EXAMPLES, "move.sh"), register.key, place], stdout=subprocess.PIPE,
+                              stderr=subprocess.STDOUT, text=True)
+        told = done.stdout.startswith(f"{register.key} is at {place}, with hash slot ")
+        is_there = done.stdout == f"move.sh: {register.key} is there already\n"
+        check(f"move.sh to {node.name}", told if done.returncode == 0 else is_there, done.stdout)
+        with node.connection() as one:
+            same("the register is there", one("EXISTS", register.key), 1)
+    end.set()
+    reader.join()
+    same("what was read meanwhile", wrong[:1], [])
+
+
 def in_cluster(module):
     logging.disable(logging.ERROR)  # python3-redis logs each slot that has moved
     nodes = [Server(f"node{number}", module, "--cluster-enabled", "yes") for number in range(3)]
@@ -215,6 +244,7 @@ def in_cluster(module):
                  "--cluster-slots", "420", "--cluster-yes")
     with nodes[0].connection() as one:
         same("what is left of seven registers", one("DBSIZE"), 4)
+    moved_alone(cluster, nodes)
     for number in numbers:
         cluster.update_location(number, 268435456 * 3)
     same("areas", cluster.areas(), [0, 0, 0, len(numbers)] + [0] * 12)
