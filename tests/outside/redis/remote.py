@@ -170,6 +170,25 @@ def _text(word):
     return word if isinstance(word, str) else word.decode()
 
 
+class OutOfMemoryError(redis.ResponseError):
+    """As newer versions of python3-redis have it."""
+
+
+class Newer:
+    """A client as newer versions of python3-redis make it: maps over RESP3, and an exception for OOM without the code."""
+
+    def execute_command(self, name, *_):
+        if name == "HLR.GAD":
+            return {"data1": 1, "data2": 2, "data3": "ABC", "data4": "ABCDE"}
+        raise OutOfMemoryError("no memory was left")
+
+
+def newer():
+    register = hlr.remote.Register(Newer(), "hlr")
+    same("a map over RESP3", register.access_data(7, 3), Access(7, 3, 1, 2, "ABC", "ABCDE"))
+    refused("no memory, by a newer client", hlr.Memory, register.add_subscriber, FULL)
+
+
 def one_server(module):
     server = Server("one", module)
     for decode in (False, True):
@@ -265,6 +284,7 @@ def in_cluster(module):
 def main():
     failed, tried = doctest.testmod(hlr.remote)
     same("doctests", (failed, tried > 1), (0, True))
+    newer()
     one_server(sys.argv[1])
     in_cluster(sys.argv[1])
     ended()
