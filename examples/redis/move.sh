@@ -1,6 +1,6 @@
 #!/usr/bin/env bash
 # Moves the hash slot of one register to another node of a cluster, with all registers in it. Clients may read and write
-# meanwhile: they are redirected, as when redis-cli --cluster reshard moves hash slots, which can't choose one by its key.
+# meanwhile: they are redirected, as when redis-cli --cluster reshard moves hash slots. That can't choose one by its key.
 #
 #   move.sh KEY HOST:PORT     moves the register at KEY to the node that listens there
 set -euo pipefail

@@ -175,7 +175,7 @@ class OutOfMemoryError(redis.ResponseError):
 
 
 class Newer:
-    """A client as newer versions of python3-redis make it: maps over RESP3, and an exception for OOM without the code."""
+    """A client as newer versions of python3-redis make it: maps over RESP3, and OOM as an exception without the code."""
 
     def execute_command(self, name, *_):
         if name == "HLR.GAD":
