@@ -12,8 +12,8 @@
 . "$(dirname "$0")/tests/outside/lib.sh" || exit 1
 
 # The packages of Debian 12 that have the tools which the parts call. What every Debian system has isn't listed.
-packages=(binutils chromium clang g++ gcc graphviz libhiredis-dev man-db openssl pkg-config python3 redis-sentinel redis-server redis-tools
-  shellcheck valgrind)
+packages=(binutils chromium clang g++ gcc graphviz libhiredis-dev man-db openssl pkg-config python3 python3-redis redis-sentinel
+  redis-server redis-tools shellcheck valgrind)
 
 # installed: installs the packages that are missing.
 installed() {

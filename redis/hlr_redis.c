@@ -163,7 +163,6 @@ static int is_made(redis_context *ctx, const struct command *command) {
         .sizes = &sizes,
         .summary = command->summary,
         .complexity = command->complexity,
-        .since = "0.4.0",
         .arity = command->arity,
         .key_specs = key ? specs : NULL,
         .arguments = command->arguments,

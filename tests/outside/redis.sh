@@ -41,10 +41,20 @@ blocks() {
   ended 'blocks of rows under valgrind' /dev/null valgrind -q --leak-check=full --error-exitcode=9 "$room/blocks" 300
 }
 
+# python_found: a python3 that has python3-redis, or else any. Only the package hlr.remote needs it.
+python_found() {
+  for python in python3 /usr/bin/python3; do
+    if "$python" -c 'import redis' 2> /dev/null; then return 0; fi
+  done
+  python=python3
+  skip python3-redis 'the package hlr.remote'
+  return 1
+}
+
 # row NAME=MODULE ..: runs these tests one after another. What they print goes to files.
 row() {
   local one
-  for one in "$@"; do timeout -k 10 170 python3 -W error "$here/${one%%=*}.py" "$room/${one#*=}" > "$room/$one.said" 2>&1; done
+  for one in "$@"; do timeout -k 10 170 "$python" -W error "$here/${one%%=*}.py" "$room/${one#*=}" > "$room/$one.said" 2>&1; done
 }
 
 # servers: all tests with servers, in two rows.
@@ -52,6 +62,10 @@ servers() {
   local one first=(replica=gcc.so cluster=gcc.so kept=gcc.so rights=gcc.so commands=clang.so)
   local second=(commands=sanitized.so memory=sanitized.so crash=gcc.so hostile=sanitized.so)
   [ -f "$room/clang.so" ] || cp "$room/gcc.so" "$room/clang.so"
+  if python_found && compiled libhlr.so.1 -shared -Wl,--whole-archive "$archive" -Wl,--no-whole-archive "$(kit_archive)" -Wl,-z,defs; then
+    export PYTHONPATH=$PWD/python HLR_LIBRARY=$room/libhlr.so.1
+    first+=(remote=gcc.so)
+  fi
   HLR_PRELOAD=$(gcc -print-file-name=libasan.so):$(gcc -print-file-name=libubsan.so)
   export HLR_PRELOAD
   row "${first[@]}" &

@@ -143,6 +143,15 @@ class Server(Process):
             return one("DEBUG", "DIGEST")
 
 
+def command_line(*words):
+    """redis-cli --cluster: its output, where it ended well."""
+    done = subprocess.run(["redis-cli", "--cluster", *words], stdout=subprocess.PIPE, stderr=subprocess.STDOUT, text=True, check=False,
+                          stdin=subprocess.DEVNULL, timeout=PATIENCE * 2)
+    if done.returncode != 0:
+        raise RuntimeError(f"redis-cli --cluster {words[0]}: {done.stdout[-600:]}")
+    return done.stdout
+
+
 signal.signal(signal.SIGTERM, lambda *_: sys.exit(1))
 
 
