@@ -11,9 +11,8 @@
  * numbers, and codes into replies. A read of a row that doesn't exist replies null. A write that is refused replies
  * an error whose first word is the code.
  *
- * A register has one part, because parts are for threads and Redis runs all commands in one thread. Only while a
- * register is loaded or copied does it have several, on which threads work. Its counts are the sums of the published and
- * the unposted counts of hlr_views.
+ * A register has one part, because parts are for threads and Redis runs all commands in one thread. It has several
+ * only while threads load or copy it. Its counts are the sums of the published and the unposted counts of hlr_views.
  *
  * The rules of hlr.h for callers are kept in this way:
  *
@@ -194,8 +193,8 @@ static int usual_threads(void) {
     return count == 1 ? 0 : count < LOADERS ? count : LOADERS;
 }
 
-/* The number of threads by the words behind the module's path, which are LOAD-THREADS and a number, or none. Other words
- * give UINT64_MAX. */
+/* The number of threads that the words behind the module's path ask for. They are LOAD-THREADS and a number, or none.
+ * Other words give UINT64_MAX. */
 static uint64_t wanted_threads(redis_string **argv, int argc) {
     if (argc == 0) return (uint64_t)usual_threads();
     return argc == 2 && is_word(argv[0], "LOAD-THREADS") ? number_of(text_of(argv[1])) : UINT64_MAX;

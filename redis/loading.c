@@ -18,7 +18,8 @@
 #define MOST_PARTS 16
 
 void loading_begin(struct loading *loading, hlr *handle, int threads, size_t (*taken_here)(void)) {
-    *loading = (struct loading){.handle = handle, .threads = threads < LOADERS ? threads : LOADERS, .parts = 1, .code = HLR_DONE};
+    *loading = (struct loading){.handle = handle, .threads = threads, .parts = 1, .code = HLR_DONE};
+    if (threads > LOADERS) loading->threads = LOADERS;
     for (int place = 0; place <= LOADERS; place++)
         loading->chunks[place] = (struct chunk){.part = HLR_CLOSED, .code = HLR_DONE, .taken_here = taken_here};
 }
@@ -51,8 +52,8 @@ static int is_started(struct chunk *chunk) {
     return chunk->is_running;
 }
 
-/* Lends a part for the other rows of the chunk's blocks, which a thread adds, or else the caller's own thread, as it also
- * does if no thread can be started. */
+/* Lends a part for the other rows of the chunk's blocks. A thread adds them, or else the caller's own thread, which also
+ * does so if no thread can be started. */
 static uint8_t handed_over(struct loading *loading, uint64_t part, int in_thread) {
     struct chunk *chunk = filling(loading);
     uint8_t code = hlr_lend(loading->handle, part, &chunk->part);
@@ -131,7 +132,8 @@ uint8_t loading_block(struct loading *loading, const uint8_t *block, size_t leng
 }
 
 uint8_t loading_end(struct loading *loading) {
-    if (loading->code == HLR_DONE && filling(loading)->blocks > 0) kept(loading, handed_over(loading, loading->parts - 1, 0));
+    int is_rest = loading->code == HLR_DONE && filling(loading)->blocks > 0;
+    if (is_rest) kept(loading, handed_over(loading, loading->parts - 1, 0));
     kept(loading, gathered(loading, NULL));
     for (int place = 0; place <= LOADERS; place++) free(loading->chunks[place].bytes);
     return loading->code;

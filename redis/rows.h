@@ -101,12 +101,12 @@ struct loading {
  */
 void loading_begin(struct loading *loading, hlr *handle, int threads, size_t (*taken_here)(void));
 
-/* Loads the next block, of at most BLOCK_BYTES bytes. The subscribers of one block lie behind those of the block before.
- * It returns as rows_of_block does, but the code may be that of an earlier block. Call loading_end in any case. */
+/* Loads the next block, of at most BLOCK_BYTES bytes, whose subscribers lie behind those of the block before. It returns
+ * as rows_of_block does, but the code may be that of an earlier block. Call loading_end in any case. */
 uint8_t loading_block(struct loading *loading, const uint8_t *block, size_t length);
 
-/* Waits until all rows are added, and makes one part of the register again. It returns HLR_DONE, or the code of the first
- * row that was refused; the register should be closed then. `taken` has its sum. */
+/* Waits until all rows are added, and makes one part of the register again. It returns HLR_DONE, or the code of the
+ * first row that was refused; the register should be closed then. `taken` has its sum. */
 uint8_t loading_end(struct loading *loading);
 
 #endif
