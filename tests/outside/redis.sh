@@ -32,13 +32,21 @@ compilers() {
   done
 }
 
-# blocks: rows as bytes, under sanitizers and valgrind.
+# blocks NAME WORD ..: rows as bytes, and threads that load them, without a server.
 blocks() {
-  compiled blocks -std=gnu11 -Wconversion "${sanitizers[@]}" -Iredis -Icrates/hlr_c "$here/blocks.c" redis/{rows,walk}.c "$archive" "$(kit_archive)" || return
-  ended 'blocks of rows' /dev/null "$room/blocks" 20000
+  compiled "$1" -std=gnu11 -g -Wconversion -pthread -Wl,--wrap=malloc "${@:2}" -Iredis -Icrates/hlr_c "$here/blocks.c" \
+    redis/{loading,rows,walk}.c "$archive" "$(kit_archive)"
+}
+
+# bytes: blocks of rows under sanitizers and valgrind, with blocks and chunks of the usual size and with small ones, so that
+# a register of few rows is cut into many parts.
+bytes() {
+  local small=(-DBLOCK_BYTES=4096 -DCHUNK_BLOCKS=2)
+  blocks blocks "${sanitizers[@]}" && ended 'blocks of rows' /dev/null "$room/blocks" 20000
+  blocks small "${sanitizers[@]}" "${small[@]}" && ended 'small blocks of rows' /dev/null "$room/small" 2000
+  blocks raced -fsanitize=thread "${small[@]}" && ended 'threads that load' /dev/null "$room/raced" 10
   tool valgrind 'blocks of rows under it' || return
-  compiled blocks -std=gnu11 -g -Iredis -Icrates/hlr_c "$here/blocks.c" redis/{rows,walk}.c "$archive" "$(kit_archive)" || return
-  ended 'blocks of rows under valgrind' /dev/null valgrind -q --leak-check=full --error-exitcode=9 "$room/blocks" 300
+  blocks plain && ended 'blocks of rows under valgrind' /dev/null valgrind -q --leak-check=full --error-exitcode=9 "$room/plain" 300
 }
 
 # python_found: a python3 that has python3-redis, or else any. Only hlr.remote needs it. It is looked for from elsewhere,
@@ -81,7 +89,7 @@ servers() {
 tool gcc 'the module hlr.so' || finish
 archive_built || finish
 compilers
-blocks
+bytes
 for needed in redis-server redis-sentinel redis-cli openssl python3; do tool "$needed" 'the module hlr.so in servers' || finish; done
 module sanitized.so gcc "${refusing[@]}" "${sanitizers[@]}" || finish
 [ ! -f "$room/gcc.so" ] || servers
