@@ -14,10 +14,10 @@
   move    how long a register takes from one server to another and back
 
 It starts servers on free ports of loopback, each in a folder of its own below ROOM (/tmp/bench), and ends them. In mix
-and room the servers share one processor and the client has another, the last two that this program may use. In files and
-move the servers have all processors, because threads load a register; LOAD_THREADS chooses how many, 0 to 4. Times are
-medians of the turns, in which both stores take their turn. It prints tables for docs/SPEED.md. It needs gcc, redis-server
-and redis-cli.
+and room the servers share one processor and the client has another, the last two that this program may use. In files
+and move the servers have all processors, because threads load a register; LOAD_THREADS chooses how many, 0 to 4. Times
+are medians of the turns, in which both stores take their turn. It prints tables for docs/SPEED.md, and needs gcc,
+redis-server and redis-cli.
 """
 import argparse
 import os
