@@ -23,6 +23,7 @@ import argparse
 import os
 import pathlib
 import shutil
+import signal
 import socket
 import statistics
 import subprocess
@@ -226,6 +227,7 @@ def main():
     client = str(ROOM / "tatp_redis")
     subprocess.run(["gcc", "-O2", "-o", client, str(HERE / "tatp.c")], check=True)
     kinds = ("hlr", "hlr") if given.what == "move" else ("hlr", "hashes")
+    signal.signal(signal.SIGTERM, lambda *_: sys.exit(1))
     own = {processors[-1]} if given.what in ("mix", "room") else set(processors)
     servers = []
     try:
