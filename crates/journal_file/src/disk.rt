@@ -1,6 +1,7 @@
 //! A file of the operating system. Each method makes its calls of the system, and then notes them with their answer.
 ghost use Rattle.std.specs.Prelude.{◌≡◌, ◌<◌, ◌≤◌, [], ◌∷◌, true, length, IfOk};
 ghost use Rattle.journal_file.specs.Calls.{seen_after, left_after, faults_in, left_since};
+ghost use Rattle.journal_file.specs.Disk.{disk_read};
 ghost use Rattle.journal_file.specs.Laws.{now_counts, now_alone};
 ghost use Rattle.journal_file.specs.declared.record.Step.TheVariants.{Held};
 
@@ -37,7 +38,9 @@ pub struct UnreadDisk {
 
 impl UnreadDisk {
     /// Takes a file that is locked and synced.
-    pub(crate) fn new(file: File, place: Place) -> UnreadDisk {
+    pub(crate) fn new(file: File, place: Place) -> UnreadDisk
+        ensures read { disk_read result ≡ [] }
+    {
         UnreadDisk {
             file,
             place,

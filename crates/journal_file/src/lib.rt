@@ -26,3 +26,6 @@ pub use disk::{Disk, UnreadDisk};
 pub use fault::JournalFault;
 pub use memory::{Memory, UnreadMemory};
 pub use opening::{open, open_next};
+
+#[cfg(test)]
+mod tests;

@@ -3,7 +3,7 @@
 ghost use Rattle.std.specs.Prelude.{◌≡◌, ◌⊎◌, ◌≤◌, ◌+◌, ◌-◌, ◌++◌, [], ◌∷◌, length, take, drop, replicate, IfOk, OnOk, OnErr};
 ghost use Rattle.std.proofs.Common.{inl};
 ghost use Rattle.journal_file.specs.Laws.{bytes_alone};
-ghost use Rattle.journal_file.specs.Memory.{HadBeen, memory_bytes};
+ghost use Rattle.journal_file.specs.Memory.{HadBeen, memory_bytes, memory_read, memory_file};
 
 use crate::{Device, JournalFault, Replace, Unread};
 use std::alloc::{AllocError, Global};
@@ -126,7 +126,10 @@ pub struct UnreadMemory {
 
 impl UnreadMemory {
     /// Begins at the front of the file.
-    pub fn new(file: Memory) -> UnreadMemory {
+    pub fn new(file: Memory) -> UnreadMemory
+        ensures read { memory_read result ≡ [] }
+        ensures file { memory_file result ≡ file }
+    {
         UnreadMemory { file, at: 0 }
     }
 }

@@ -1,5 +1,8 @@
 //! Opens, makes and locks files. A lock belongs to an open file, so the system lets it go when a process ends, and no
 //! lock is ever stale.
+ghost use Rattle.std.specs.Prelude.{◌≡◌, [], IfOk};
+ghost use Rattle.journal_file.specs.Disk.{disk_read};
+
 use crate::disk::{Place, write_zeros};
 use crate::{Disk, JournalFault, UnreadDisk};
 use std::fs::{self, File, OpenOptions, TryLockError};
@@ -22,7 +25,9 @@ impl From<io::Error> for JournalFault {
 /// Opens the file at a path, and makes it with zeros if there is none. It is locked until it is dropped. A file that
 /// [`open_next`] left beside it is removed. Gives up with `Locked` if another handle has the file, with `NoJournal` if
 /// it is no regular file, and with `Memory` or `Failed`.
-pub fn open(runtime: &HostRuntime, path: &str) -> Result<UnreadDisk, JournalFault> {
+pub fn open(runtime: &HostRuntime, path: &str) -> Result<UnreadDisk, JournalFault>
+    ensures read { IfOk result (λ unread. disk_read unread ≡ []) }
+{
     let place = place_of(runtime, find_or_make(runtime, path)?)?;
     let file = open_locked(&place)?;
     let _ = fs::remove_file(runtime, next_path(&place)?.as_str());
@@ -33,7 +38,9 @@ pub fn open(runtime: &HostRuntime, path: &str) -> Result<UnreadDisk, JournalFaul
 
 /// Makes a file of zeros in the folder of another one, under its name with `.next` behind it, so that it can take the
 /// other's place. Gives up as [`open`] does.
-pub fn open_next(file: &Disk) -> Result<UnreadDisk, JournalFault> {
+pub fn open_next(file: &Disk) -> Result<UnreadDisk, JournalFault>
+    ensures read { IfOk result (λ unread. disk_read unread ≡ []) }
+{
     let place = file.place();
     let path = next_path(place)?;
     let next = make_blank(&place.runtime, path.as_str())?;
