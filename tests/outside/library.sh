@@ -16,8 +16,8 @@ headers() {
     printf '#include "hlr.h"\nhlr handle = HLR_CLOSED;\n' > "$room/header.cc"
     is 'hlr.h is read by C++' "$(g++ -Wall -Wextra -Werror -fsyntax-only -Icrates/hlr_c "$room/header.cc" 2>&1; echo "$?")" 0
   fi
-  awk -f "$in_library/layout.awk" crates/hlr_c/src/{rows,kept,kept_part,handle,part,codes}.rt crates/tatp_rows/src/refusal.rt \
-    crates/tatp_actions/src/cells.rt > "$room/layout.h"
+  awk -f "$in_library/layout.awk" crates/hlr_c/src/{rows,kept,kept_part,handle,part,codes}.rt crates/tatp_rows/src/{refusal,ranges}.rt \
+    crates/tatp_actions/src/cells.rt crates/part_table/src/{region,bounds}.rt > "$room/layout.h"
   is "hlr.h has the library's layout" "$(gcc -std=c11 -Wall -Wextra -Werror -fsyntax-only -I"$room" -Icrates/hlr_c "$in_library/layout.c" 2>&1; echo "$?")" 0
   awk -f "$in_library/calls.awk" "$header" | sort > "$room/declared"
   awk -f "$in_library/calls.awk" crates/hlr_c/src/*.rt | sort > "$room/wanted"
