@@ -31,7 +31,7 @@ int main(void) {
     hlr_facility forwarding = {.s_id = 7, .sf_type = 2, .is_active = 1, .data_b = {'A', 'B', 'C', 'D', 'E'}};
     hlr_numbers numbers = {0};
     hlr_region_list regions = {0};
-    hlr_region part = {0};
+    hlr_region part = {0}, piece = {0};
     hlr_bounds bounds = {0};
     uint64_t count = 0;
     seventy.s_id = 70;
@@ -57,9 +57,9 @@ int main(void) {
     done("post part 0", hlr_post(&handle, 0, HLR_CELLS, &count));
     done("post part 1", hlr_post(&handle, 1, HLR_CELLS, &count));
     if (!views()) return 1;
-    if (!done("give what part 0 has from 5 on", hlr_give(&handle, 0, HLR_HIGH, 5, &part))) return 1;
+    if (!done("give what part 0 has from 5 on", hlr_give(&handle, 0, HLR_HIGH, 5, &piece))) return 1;
     done("read 7 on its way", hlr_subscriber_data(&handle, 7, &row));
-    if (!done("take it into part 1", hlr_take(&handle, part.number, 1))) return 1;
+    if (!done("take it into part 1", hlr_take(&handle, piece.number, 1))) return 1;
     done("propose", hlr_propose(&handle, &bounds));
     if (!done("recut", hlr_recut(&handle, &bounds, &count))) return 1;
     if (!done("divide part 1 at 70", hlr_divide(&handle, 1, 70, &part))) return 1;
