@@ -66,7 +66,7 @@ impl Unread for UnreadDisk {
         };
         self.log = Record::with(&self.log, &Step::Held, &buffer[..n]);
         self.len = self.len.saturating_add(n);
-        if n == 0 {
+        if n == 0 && !buffer.is_empty() {
             self.is_read = true;
         }
         Ok(n)
