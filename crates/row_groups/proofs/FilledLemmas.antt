@@ -76,12 +76,6 @@ filled-each row P i (None ∷ ps) holds = filled-each row P (suc i) ps (λ place
 filled-each row P i (Some d ∷ ps) holds =
     (holds i d (omega arith) (omega arith), filled-each row P (suc i) ps (λ place e from below. holds place e (omega arith) (omega arith)))
 
--- a row that is put into an empty list is alone in it
-pub put_first : {X : Type 0} (key : X → ℕ) (row : X) (before after : List X) (result : Result (Unit {0}) Refusal) → before ≡ [] → IsPut key row before after result → after ≡ row ∷ []
-put_first key row [] after (Ok u) e put = put.1
-put_first key row [] after (Err why) e put = let no : false ≡ true = put.1 in absurd cc
-put_first key row (x ∷ before) after result e put = absurd cc
-
 module _ {D R : Type 0} (row : ℕ → D → R) (key : R → ℕ) (at : ℕ → ℕ) (keys : HasKeys row key at) where
   -- a place that is taken has a row, and one that is free has none
   pub taken-found : (i n place : ℕ) (ps : List (Option D)) → i + n ≡ place → is_some (get_or ps n None) ≡ true → IsSome (row_at key (at place) (filled row i ps))
@@ -116,8 +110,8 @@ module _ {D R : Type 0} (row : ℕ → D → R) (key : R → ℕ) (at : ℕ → 
 
   -- the rows that a test chooses, of one place more
   pub chosen-more : {S : Type 0} (with : R → S) (test : R → Bool) (i n place : ℕ) (ps : List (Option D)) (items chosen new : List S) → i + n ≡ place → n < length ps
-    → items ≡ map with (filter test (filled row i (take n ps))) → chosen ≡ map with (filter test (option_to_list (row_at key (at place) (filled row i ps)))) → new ≡ items ++ chosen
-    → new ≡ map with (filter test (filled row i (take (n + 1) ps)))
+      → items ≡ map with (filter test (filled row i (take n ps))) → chosen ≡ map with (filter test (option_to_list (row_at key (at place) (filled row i ps)))) → new ≡ items ++ chosen
+      → new ≡ map with (filter test (filled row i (take (n + 1) ps)))
   chosen-more with test i n place ps items chosen new e within so_far more step =
       let one : n + 1 ≡ suc n = omega arith in
       rw (one, step, so_far, more, filled-found row key at keys i n place ps e, filled-more row i n place ps e within, filter-append, map-append) refl

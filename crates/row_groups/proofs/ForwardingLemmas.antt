@@ -33,13 +33,13 @@ hour_found n k words e =
 
 -- a row is put into the free place of its start time
 pub hour_put : (row : CallForwardingRow) (n : ℕ) (words : List (Option ForwardingData)) → 8 * n ≡ row.start_time → n < length words → get_or words n None ≡ None
-  → IsPut forwarding_start (forwarding_with 0 0 row) (filled forwarding_row 0 words) (filled forwarding_row 0 (set words n (Some (forwarding_data row)))) (Ok tt)
+    → IsPut forwarding_start (forwarding_with 0 0 row) (filled forwarding_row 0 words) (filled forwarding_row 0 (set words n (Some (forwarding_data row)))) (Ok tt)
 hour_put row n words e within free =
     put_free forwarding_row forwarding_start (λ place. 8 * place) forwarding_keys 0 n n (forwarding_data row) (forwarding_with 0 0 row) words (omega arith) (rw e refl) within free
 
 -- a row whose start time is taken is refused
 pub hour_refused : (row : CallForwardingRow) (n : ℕ) (words : List (Option ForwardingData)) → 8 * n ≡ row.start_time → is_some (get_or words n None) ≡ true
-  → IsPut forwarding_start (forwarding_with 0 0 row) (filled forwarding_row 0 words) (filled forwarding_row 0 words) (Err Exists)
+    → IsPut forwarding_start (forwarding_with 0 0 row) (filled forwarding_row 0 words) (filled forwarding_row 0 words) (Err Exists)
 hour_refused row n words e taken =
     put_refused forwarding_row forwarding_start (λ place. 8 * place) forwarding_keys 0 n n (forwarding_with 0 0 row) words (omega arith) (sym e) taken
 
@@ -51,7 +51,7 @@ hour_removed n k words e =
 
 -- another row takes the place of the one of its start time
 pub hour_replaced : (row : CallForwardingRow) (n : ℕ) (words : List (Option ForwardingData)) → 8 * n ≡ row.start_time → IsSome (row_at forwarding_start row.start_time (filled forwarding_row 0 words))
-  → filled forwarding_row 0 (set words n (Some (forwarding_data row))) ≡ with_row_at forwarding_start row.start_time (forwarding_with 0 0 row) (filled forwarding_row 0 words)
+    → filled forwarding_row 0 (set words n (Some (forwarding_data row))) ≡ with_row_at forwarding_start row.start_time (forwarding_with 0 0 row) (filled forwarding_row 0 words)
 hour_replaced row n words e found =
     subst (λ (hour : ℕ). filled forwarding_row 0 (set words n (Some (forwarding_data row))) ≡ with_row_at forwarding_start hour (forwarding_with 0 0 row) (filled forwarding_row 0 words)) e
     (put_over forwarding_row forwarding_start (λ place. 8 * place) forwarding_keys 0 n n (forwarding_data row) (forwarding_with 0 0 row) words (omega arith) (rw e refl)
@@ -59,21 +59,21 @@ hour_replaced row n words e found =
 
 -- the number that a place gives to a call
 pub number_chosen : (start_time end_time n : ℕ) (words : List (Option ForwardingData)) (found : Option ForwardingData) → found ≡ get_or words n None
-  → map (λ row. row.numberx) (filter (is_in_time start_time end_time) (option_to_list (option_map (forwarding_row n) found)))
-  ≡ map (λ row. row.numberx) (filter (is_in_time start_time end_time) (option_to_list (row_at forwarding_start (8 * n) (filled forwarding_row 0 words))))
+    → map (λ row. row.numberx) (filter (is_in_time start_time end_time) (option_to_list (option_map (forwarding_row n) found)))
+    ≡ map (λ row. row.numberx) (filter (is_in_time start_time end_time) (option_to_list (row_at forwarding_start (8 * n) (filled forwarding_row 0 words))))
 number_chosen start_time end_time n words found e =
     rw e (ap (λ (found : Option CallForwardingRow). map (λ row. row.numberx) (filter (is_in_time start_time end_time) (option_to_list found))) (hour_found n (8 * n) words refl))
 
 -- the number of a row that takes the call, and none where it starts later or ends too early
 pub number_in : (start_time end_time n : ℕ) (words : List (Option ForwardingData)) (fields : ForwardingData) → Some fields ≡ get_or words n None → 8 * n ≤ start_time → end_time < fields.end_time
-  → fields.numberx ∷ [] ≡ map (λ row. row.numberx) (filter (is_in_time start_time end_time) (option_to_list (row_at forwarding_start (8 * n) (filled forwarding_row 0 words))))
+    → fields.numberx ∷ [] ≡ map (λ row. row.numberx) (filter (is_in_time start_time end_time) (option_to_list (row_at forwarding_start (8 * n) (filled forwarding_row 0 words))))
 number_in start_time end_time n words fields found starts ends =
     let t = both_from (nat_le (8 * n) start_time) (nat_lt end_time fields.end_time) (grind (arith, nat_tests)) (grind (arith, nat_tests)) in
     let here : fields.numberx ∷ [] ≡ map (λ row. row.numberx) (filter (is_in_time start_time end_time) (forwarding_row n fields ∷ [])) = rw t refl in
     here ∙ number_chosen start_time end_time n words (Some fields) found
 
 pub number_out : (start_time end_time n : ℕ) (words : List (Option ForwardingData)) (fields : ForwardingData) → Some fields ≡ get_or words n None → is_in_time start_time end_time (forwarding_row n fields) ≡ false
-  → [] ≡ map (λ row. row.numberx) (filter (is_in_time start_time end_time) (option_to_list (row_at forwarding_start (8 * n) (filled forwarding_row 0 words))))
+    → [] ≡ map (λ row. row.numberx) (filter (is_in_time start_time end_time) (option_to_list (row_at forwarding_start (8 * n) (filled forwarding_row 0 words))))
 number_out start_time end_time n words fields found out =
     let here : [] ≡ map (λ (row : CallForwardingRow). row.numberx) (filter (is_in_time start_time end_time) (forwarding_row n fields ∷ [])) = rw out refl in
     here ∙ number_chosen start_time end_time n words (Some fields) found

@@ -8,6 +8,8 @@ mod facilities;
 mod forwarding_word;
 mod forwardings;
 mod places;
+#[cfg(test)]
+mod tests;
 
 pub use accesses::Accesses;
 pub use facilities::Facilities;

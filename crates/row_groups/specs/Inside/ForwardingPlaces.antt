@@ -32,14 +32,6 @@ word_back bits is =
     (λ e. let zero : bits ≡ 0 = is.none (grind (arith, nat_tests)) in rw e (omega arith))
     (λ e. rw e (omega (arith, mod-add-div bits (2 ^ 56))))
 
--- the word of an hour and a number has them
-pub word_fields : (end_time numberx : ℕ) → 1 ≤ end_time → IsNumber numberx → fields_in (end_time * 2 ^ 56 + numberx) ≡ Some (record { end_time = end_time; numberx = numberx })
-word_fields end_time numberx some small =
-    let end : (end_time * 2 ^ 56 + numberx) / 2 ^ 56 ≡ end_time = omega arith in
-    let number : (end_time * 2 ^ 56 + numberx) % 2 ^ 56 ≡ numberx = omega arith in
-    let taken : (end_time == 0) ≡ false = grind (arith, nat_tests) in
-    rw (end, number, taken) refl
-
 -- the Call_Forwarding row at an hour
 abbrev pub forwarding_at : ℕ → ForwardingData → CallForwardingRow
 forwarding_at hour fields = record { s_id = 0; sf_type = 0; start_time = hour; end_time = fields.end_time; numberx = fields.numberx }

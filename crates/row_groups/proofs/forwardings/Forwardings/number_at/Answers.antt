@@ -22,10 +22,10 @@ returns c =
     let read = read_place c.self.inside.words c.from.result c.index-self-from.result (omega (arith, c.self.invariant, c.from.ensures, c.requires)) c.index-self-from.is in
     let found : Some c.in_ok-fields.fields ≡ get_or c.self.inside.words c.args.place None = rw (← c.from.ensures) (c.in_ok-fields.ensures.value ∙ sym c.index-self-from.is ∙ read) in
     elim c.else-place-start_time.branch [
-      else-place-start_time-via-then-place-start_time+else-end_time-fields w ↦ rw (← c.self.view_is)
-        (number_out c.args.start_time c.args.end_time c.args.place c.self.inside.words c.in_ok-fields.fields found
-        (ends_early c.args.start_time c.args.end_time c.args.place c.in_ok-fields.fields w.if-place-start_time.true w.if-end_time-fields.false))
-    | else-place-start_time-via-else-place-start_time w ↦ rw (← c.self.view_is)
-        (number_out c.args.start_time c.args.end_time c.args.place c.self.inside.words c.in_ok-fields.fields found
-        (starts_late c.args.start_time c.args.end_time c.args.place c.in_ok-fields.fields w.if-place-start_time.false))
+      | else-place-start_time-via-then-place-start_time+else-end_time-fields w ↦ rw (← c.self.view_is)
+          (number_out c.args.start_time c.args.end_time c.args.place c.self.inside.words c.in_ok-fields.fields found
+          (ends_early c.args.start_time c.args.end_time c.args.place c.in_ok-fields.fields w.if-place-start_time.true w.if-end_time-fields.false))
+      | else-place-start_time-via-else-place-start_time w ↦ rw (← c.self.view_is)
+          (number_out c.args.start_time c.args.end_time c.args.place c.self.inside.words c.in_ok-fields.fields found
+          (starts_late c.args.start_time c.args.end_time c.args.place c.in_ok-fields.fields w.if-place-start_time.false))
     ]
