@@ -5,7 +5,7 @@ ghost use Rattle.tatp_rows.specs.Rows.{is_between};
 ghost use Rattle.tatp_rows.specs.Spans.{keys_from};
 ghost use Rattle.tatp_rows.specs.declared.ranges.TheConstants.{LAST_SUBSCRIBER};
 ghost use Rattle.row_groups.specs.Groups.{AreAccesses, IsPut, access_type, access_with};
-ghost use Rattle.row_groups.specs.Inside.AccessPlaces.{access_data, access_row};
+ghost use Rattle.row_groups.specs.AccessPlaces.{access_data, access_row};
 
 use crate::places::{count_taken, push_some};
 use arrayvec::ArrayVec;
@@ -68,8 +68,8 @@ pub struct Accesses {
 impl Model for Accesses {
     ghost use Rattle.std.specs.Prelude.{◌≡◌, List, length, refl};
     ghost use Rattle.tatp_rows.specs.Rows.{AccessInfoRow};
-    ghost use Rattle.row_groups.specs.Inside.AccessPlaces.{access_back, access_places, access_row};
-    ghost use Rattle.row_groups.specs.Inside.Places.{filled};
+    ghost use Rattle.row_groups.specs.AccessPlaces.{access_back, access_places, access_row};
+    ghost use Rattle.row_groups.specs.Places.{filled};
 
     ghost Value = { List AccessInfoRow };
 

@@ -5,7 +5,7 @@ ghost use Rattle.tatp_rows.specs.Rows.{is_between};
 ghost use Rattle.tatp_rows.specs.Spans.{keys_from};
 ghost use Rattle.tatp_rows.specs.declared.ranges.TheConstants.{LAST_SUBSCRIBER};
 ghost use Rattle.row_groups.specs.Groups.{AreFacilities, IsPut, is_found_active, facility_type, facility_with};
-ghost use Rattle.row_groups.specs.Inside.FacilityPlaces.{facility_data, facility_row};
+ghost use Rattle.row_groups.specs.FacilityPlaces.{facility_data, facility_row};
 
 use crate::places::{count_taken, push_some};
 use arrayvec::ArrayVec;
@@ -59,8 +59,8 @@ impl FacilityData {
     }
 }
 
-/// The Special_Facility rows of a subscriber, at most one for each of the types 1 to 4, seen as their list in the order of
-/// the types. The group doesn't keep the s_id.
+/// The Special_Facility rows of a subscriber, at most one for each of the types 1 to 4, seen as their list in the order
+/// of the types. The group doesn't keep the s_id.
 #[derive(Clone, Copy, Debug)]
 pub struct Facilities {
     // The place of a type is the type less 1.
@@ -70,8 +70,8 @@ pub struct Facilities {
 impl Model for Facilities {
     ghost use Rattle.std.specs.Prelude.{◌≡◌, List, length, refl};
     ghost use Rattle.tatp_rows.specs.Rows.{SpecialFacilityRow};
-    ghost use Rattle.row_groups.specs.Inside.FacilityPlaces.{facility_back, facility_places, facility_row};
-    ghost use Rattle.row_groups.specs.Inside.Places.{filled};
+    ghost use Rattle.row_groups.specs.FacilityPlaces.{facility_back, facility_places, facility_row};
+    ghost use Rattle.row_groups.specs.Places.{filled};
 
     ghost Value = { List SpecialFacilityRow };
 

@@ -5,7 +5,7 @@ ghost use Rattle.std.specs.Option.{option_map_or};
 ghost use Rattle.tatp_rows.specs.Rows.{is_between, is_start_time};
 ghost use Rattle.tatp_rows.specs.declared.ranges.TheConstants.{LAST_SUBSCRIBER};
 ghost use Rattle.row_groups.specs.Groups.{forwarding_with};
-ghost use Rattle.row_groups.specs.Inside.ForwardingPlaces.{forwarding_at, forwarding_data};
+ghost use Rattle.row_groups.specs.ForwardingPlaces.{forwarding_at, forwarding_data};
 
 use std::marker::Model;
 use tatp_rows::{Forwarding, Number};
@@ -53,7 +53,7 @@ pub(crate) struct ForwardingWord {
 
 impl Model for ForwardingWord {
     ghost use Rattle.std.specs.Prelude.{Option, refl};
-    ghost use Rattle.row_groups.specs.Inside.ForwardingPlaces.{IsWord, fields_in, word_back, word_of};
+    ghost use Rattle.row_groups.specs.ForwardingPlaces.{IsWord, fields_in, word_back, word_of};
     ghost use Rattle.row_groups.specs.declared.forwarding_word.ForwardingData.{ForwardingData};
 
     ghost Value = { Option ForwardingData };

@@ -7,7 +7,7 @@ ghost use Rattle.tatp_rows.specs.Rows.{is_between, is_start_time};
 ghost use Rattle.tatp_rows.specs.Spans.{keys_from};
 ghost use Rattle.tatp_rows.specs.declared.ranges.TheConstants.{LAST_SUBSCRIBER};
 ghost use Rattle.row_groups.specs.Groups.{AreForwardings, IsPut, end_of, forwarding_start, forwarding_with, is_in_time};
-ghost use Rattle.row_groups.specs.Inside.ForwardingPlaces.{forwarding_at};
+ghost use Rattle.row_groups.specs.ForwardingPlaces.{forwarding_at};
 
 use crate::forwarding_word::{ForwardingData, ForwardingWord, count_taken};
 use crate::places::push_some;
@@ -26,8 +26,8 @@ pub struct Forwardings {
 impl Model for Forwardings {
     ghost use Rattle.std.specs.Prelude.{◌≡◌, List, length, refl};
     ghost use Rattle.tatp_rows.specs.Rows.{CallForwardingRow};
-    ghost use Rattle.row_groups.specs.Inside.ForwardingPlaces.{forwarding_back, forwarding_places, forwarding_row};
-    ghost use Rattle.row_groups.specs.Inside.Places.{filled};
+    ghost use Rattle.row_groups.specs.ForwardingPlaces.{forwarding_back, forwarding_places, forwarding_row};
+    ghost use Rattle.row_groups.specs.Places.{filled};
 
     ghost Value = { List CallForwardingRow };
 

@@ -1,11 +1,11 @@
--- The places of a group of Special_Facility rows. No clause of a public call cites these.
+-- The places of a group of Special_Facility rows.
 use Rattle.std.specs.Prelude.{◌≡◌, refl, ℕ, ◌==◌, ◌≤◌, Bool, true, false, if◌then◌else◌, List, length, Option}
 use Rattle.tatp_rows.specs.Rows.{SpecialFacilityRow}
 use Rattle.std.proofs.Common.{arith}
 use Rattle.std.proofs.lemmas.Bool.Decides.{nat_tests}
 use Rattle.tatp_rows.proofs.OrderedLemmas.{by_test}
 use Rattle.row_groups.specs.Groups.{facility_type}
-use Rattle.row_groups.specs.Inside.Places.{HasKeys, filled, filled-back, placed}
+use Rattle.row_groups.specs.Places.{HasKeys, filled, filled-back, placed}
 use Rattle.row_groups.specs.declared.facilities.FacilityData.{FacilityData}
 
 -- the Special_Facility row in a place

@@ -1,8 +1,8 @@
--- The places of a group of Access_Info rows. No clause of a public call cites these.
+-- The places of a group of Access_Info rows.
 use Rattle.std.specs.Prelude.{◌≡◌, refl, ℕ, List, length, Option}
 use Rattle.tatp_rows.specs.Rows.{AccessInfoRow}
 use Rattle.row_groups.specs.Groups.{access_type}
-use Rattle.row_groups.specs.Inside.Places.{HasKeys, filled, filled-back, placed}
+use Rattle.row_groups.specs.Places.{HasKeys, filled, filled-back, placed}
 use Rattle.row_groups.specs.declared.accesses.AccessData.{AccessData}
 
 -- the Access_Info row in a place

@@ -1,4 +1,4 @@
--- The places of a group of Call_Forwarding rows, each in one word. No clause of a public call cites these.
+-- The places of a group of Call_Forwarding rows, each in one word.
 use Rattle.std.specs.Prelude.{◌≡◌, refl, ℕ, ◌+◌, ◌*◌, ◌/◌, ◌%◌, ◌<◌, ◌≤◌, ◌==◌, ◌^◌, true, false, if◌then◌else◌, List, length, Option, Some, None}
 use Rattle.std.proofs.Common.{arith}
 use Rattle.std.proofs.Math.Nat.{mod-add-div}
@@ -7,7 +7,7 @@ use Rattle.tatp_rows.specs.Number.{IsNumber}
 use Rattle.tatp_rows.specs.Rows.{CallForwardingRow}
 use Rattle.tatp_rows.proofs.OrderedLemmas.{by_test}
 use Rattle.row_groups.specs.Groups.{forwarding_start}
-use Rattle.row_groups.specs.Inside.Places.{HasKeys, filled, filled-back, placed}
+use Rattle.row_groups.specs.Places.{HasKeys, filled, filled-back, placed}
 use Rattle.row_groups.specs.declared.forwarding_word.ForwardingData.{ForwardingData}
 
 -- what a word has: the hour at which the forwarding ends in the upper 8 bits, or 0 for none, and the number below

@@ -1,4 +1,0 @@
-pub mod AccessPlaces
-pub mod FacilityPlaces
-pub mod ForwardingPlaces
-pub mod Places
