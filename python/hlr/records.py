@@ -130,9 +130,10 @@ _FIELDS = {"sub": 7, "acc": 6, "fac": 6, "icf": 5}
 
 
 def load(file: Iterable[str], parts: int = 1, width: int = 524288) -> Register:
-    """Opens a register of so many parts and of this zone width, which records don't have, and adds the rows of the
-    records sub, acc, fac and icf. Raises ValueError for a record of another kind or with the wrong number of fields. For a record that is refused, it
-    raises the exception of the call that the record asks for, with its line. In both cases it closes the register.
+    """Opens a register of so many parts and of this zone width, neither of which records have, and adds the rows of the
+    records sub, acc, fac and icf. Raises ValueError for a record of another kind or with the wrong number of fields.
+    For a record that is refused, it raises the exception of the call that the record asks for, with its line. In both
+    cases it closes the register.
 
     >>> load(["sub,7,000000000000077,1000000000,0123456789,000102030405060708ff,1,2", "gsd,7"])
     Traceback (most recent call last):

@@ -10,7 +10,7 @@ use Rattle.hlr_c.specs.Parts.{has}
 use Rattle.hlr_c.specs.declared.rows.HlrAccessAsked.{HlrAccessAsked}
 use Rattle.hlr_c.specs.declared.rows.HlrDestinationAsked.{HlrDestinationAsked}
 
--- places from one up to another of so many, at most 16
+-- places from one up to another of this many, at most 16
 abbrev pub IsBlock : ℕ → ℕ → ℕ → Type 0
 IsBlock from to count = (from ≤ to) × (to ≤ count) × (to ≤ from + 16)
 

@@ -12,7 +12,7 @@ use Rattle.hlr_lent.specs.declared.lent_part.Sent.{Sent}
 use Rattle.hlr_c.specs.declared.codes.TheConstants.{AWAY, DONE, NOT_OPEN, STILL_OPEN}
 
 -- an open handle stays as it is, and the answer says so; a closed one gets an empty register, or stays closed, with
--- Field exactly if no register can be opened with so many parts and this width, and with Memory otherwise
+-- Field exactly if no register can be opened with this many parts and this width, and with Memory otherwise
 abbrev pub IsOpening : ℕ → ℕ → Option OwnersState → ℕ → Option OwnersState → Type 0
 IsOpening parts width (Some register) code after = (code ≡ STILL_OPEN) × (after ≡ Some register)
 IsOpening parts width None code (Some register) =
