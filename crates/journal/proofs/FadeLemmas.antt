@@ -55,7 +55,7 @@ over_zeros [] (byte ∷ bytes) (suc n) fits =
     ap (λ (l : List ℕ). byte ∷ l) (over_zeros [] bytes n (omega (arith, fits)) ∙ ap (λ (k : ℕ). bytes ++ replicate {A = ℕ} k 0) same)
 over_zeros (a ∷ t) bytes n fits = ap (λ (l : List ℕ). a ∷ l) (over_zeros t bytes n fits)
 
--- a byte that stays, or becomes 0, makes the text go on as it did, or end here
+-- a byte that stays, or becomes 0, makes the text continue as it did, or end here
 fades_head : (byte x : ℕ) (file c : List ℕ) → (x ≡ 0) ⊎ (x ≡ byte) → IsFront (text c) (text file) → IsFront (text (x ∷ c)) (text (byte ∷ file))
 fades_head byte x file c is more = elim (cases_eq x 0) [
   | inl gone ↦ (text (byte ∷ file), ap (λ (l : List ℕ). l ++ text (byte ∷ file)) (sym (text_zero x c gone)))

@@ -51,7 +51,7 @@ module _ {M : Type 0} (moves : List ℕ → M → M → Type 0) (bytes : List �
       text-append bytes (byte ∷ []) all ∙ ap (λ (l : List ℕ). bytes ++ l) (text_zero byte [] is) ∙ append-nil bytes ∙ sym all in
       ended true refl same (omega (arith, ap length same, ap length all, long))
 
-  -- the text goes on
+  -- the text continues
   module _ (isnt : f.is_over ≡ false) (isnt_zero : byte ≢ 0) where
     all : text bytes ≡ bytes
     all = was.none isnt

@@ -1,4 +1,4 @@
--- How what a crash may leave goes on over calls of a file.
+-- What a crash may leave over several calls of a file.
 use Rattle.std.proofs.Common.{inl, inr, ⊎_elim, ℕ, List, arith}
 use Rattle.journal_file.specs.Device.{Elapses, LeavesOnly}
 

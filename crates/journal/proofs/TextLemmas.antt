@@ -27,7 +27,7 @@ head_not_zero byte bytes whole is = absurd (cc (whole, text_zero byte bytes is))
 pub tail_no_zero : (byte : ℕ) (bytes : List ℕ) → HasNoZero (byte ∷ bytes) → HasNoZero bytes
 tail_no_zero byte bytes whole = grind (arith, whole, text_byte byte bytes (head_not_zero byte bytes whole))
 
--- a text goes on over bytes with no 0
+-- a text continues over bytes with no 0
 pub text-append : (bytes rest : List ℕ) → HasNoZero bytes → text (bytes ++ rest) ≡ bytes ++ text rest
 text-append [] rest whole = refl
 text-append (byte ∷ bytes) rest whole =

@@ -1,5 +1,5 @@
--- What the bytes of a journal stand for. Its text is what stands in front of the first 0, and a line counts once its line
--- feed is there.
+-- What the bytes of a journal stand for. Its text is what stands in front of the first 0, and a line counts once its
+-- line feed is there.
 use Rattle.std.specs.Prelude.{◌≡◌, ℕ, ◌<◌, List, [], ◌∷◌, ◌++◌, length, if◌then◌else◌, ◌==◌}
 
 -- the bytes in front of the first 0
@@ -15,7 +15,7 @@ HasNoZero bytes = text bytes ≡ bytes
 abbrev pub HasFence : List ℕ → Type 0
 HasFence file = length (text file) < length file
 
--- the whole lines of some bytes, of which the first goes on from an open one
+-- the whole lines of some bytes, of which the first continues an open one
 abbrev pub lines_from : List ℕ → List ℕ → List (List ℕ)
 lines_from begun [] = []
 lines_from begun (byte ∷ bytes) =

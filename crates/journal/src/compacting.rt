@@ -7,8 +7,8 @@ ghost use Rattle.journal.specs.Tape.{IsOpen};
 use crate::Tape;
 use journal_file::{JournalFault, Replace};
 
-/// Puts another journal, all of it on the disk, in the place of this one. A crash at any moment of the call leaves a file
-/// that stands for the lines of the one or of the other. Gives up as [`Replace::replace`] does.
+/// Puts another journal, all of it on the disk, in the place of this one. A crash at any moment of the call leaves a
+/// file that stands for the lines of the one or of the other. Gives up as [`Replace::replace`] does.
 pub fn compact<D: Replace>(tape: &mut Tape<D>, next: Tape<D>) -> Result<(), JournalFault>
     requires is_open { IsOpen D.Device.seen D.Device.may_leave tape.old }
     requires acknowledged { tape.old.synced ≡ tape.old.end }

@@ -34,7 +34,8 @@ impl Follower {
         }
     }
 
-    /// Takes the next bytes, and does what each line says that they end. Gives up as the machine does, or with `Memory`.
+    /// Takes the next bytes, and does what each line says that they end. Gives up as the machine does, or with
+    /// `Memory`.
     pub(crate) fn follow<M: Machine>(
         &mut self,
         machine: &mut M,

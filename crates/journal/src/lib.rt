@@ -1,5 +1,5 @@
-//! A journal that loses nothing that was synced. Lines are appended to a file and synced in groups. After a crash at any
-//! moment, the file stands for the lines of a front of what was appended, with all that was synced in it.
+//! A journal that loses nothing that was synced. Lines are appended to a file and synced in groups. After a crash at
+//! any moment, the file stands for the lines of a front of what was appended, with all that was synced in it.
 //!
 //! The text of a journal is what stands in front of the first byte 0 of its file, and zeros that are on the disk stand
 //! behind it. No byte of a text is 0, so a byte that a crash has taken back is a 0, and what is left of an append is a

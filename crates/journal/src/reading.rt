@@ -9,7 +9,7 @@ use crate::{Ends, Machine};
 use journal_file::{JournalFault, Unread};
 use std::alloc::Global;
 
-/// A piece has so many bytes, and no more of the file is in memory at a time, besides a line that has begun.
+/// A piece has so many bytes, and no more of the file is in memory at a time, apart from a line that has begun.
 const PIECE: usize = 1 << 16;
 
 const MAX_LEN: usize = 1 << 62;

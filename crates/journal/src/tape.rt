@@ -48,8 +48,9 @@ impl<D: Device> Tape<D> {
         }
     }
 
-    /// Takes away what a crash left behind the last whole line. It may crash too, at any moment, and then the file stands
-    /// for the same lines. Gives up with `NoJournal` if no 0 stands behind the text, and as [`Device::blank`] does.
+    /// Takes away what a crash left behind the last whole line. It may crash too, at any moment, and then the file
+    /// stands for the same lines. Gives up with `NoJournal` if no 0 stands behind the text, and as [`Device::blank`]
+    /// does.
     pub fn recover(&mut self, ends: Ends) -> Result<(), JournalFault>
         requires ends { AreEnds (D.seen self.old.device) ends }
         requires disk { Only (D.seen self.old.device) (D.may_leave self.old.device) }
@@ -78,8 +79,8 @@ impl<D: Device> Tape<D> {
         Ok(())
     }
 
-    /// Adds bytes behind the text, with no sync. Gives up with `Full` if the file would pass 2^62 bytes, and as the calls
-    /// of [`Device`] do.
+    /// Adds bytes behind the text, with no sync. Gives up with `Full` if the file would pass 2^62 bytes, and as the
+    /// calls of [`Device`] do.
     pub fn append(&mut self, bytes: &[u8]) -> Result<(), JournalFault>
         requires is_open { IsOpen D.seen D.may_leave self.old }
         requires no_zero { HasNoZero bytes.now }
@@ -158,8 +159,8 @@ impl<D: Device> Tape<D> {
         Ok(())
     }
 
-    /// Puts the text on the disk: from an `Ok` on, each crash leaves all that was appended. Gives up as [`Device::sync`]
-    /// does.
+    /// Puts the text on the disk: from an `Ok` on, each crash leaves all that was appended. Gives up as
+    /// [`Device::sync`] does.
     pub fn sync(&mut self) -> Result<(), JournalFault>
         requires is_open { IsOpen D.seen D.may_leave self.old }
 
@@ -179,8 +180,8 @@ impl<D: Device> Tape<D> {
         Ok(())
     }
 
-    /// Appends whole lines and syncs. A crash at any moment of the call leaves the lines from before it and the first so
-    /// many of the new ones, and from an `Ok` on all of them. Gives up as [`Tape::append`] does.
+    /// Appends whole lines and syncs. A crash at any moment of the call leaves the lines from before it and the first
+    /// so many of the new ones, and from an `Ok` on all of them. Gives up as [`Tape::append`] does.
     pub fn commit(&mut self, group: &[u8]) -> Result<(), JournalFault>
         requires is_open { IsOpen D.seen D.may_leave self.old }
         requires acknowledged { self.old.synced ≡ self.old.end }

@@ -10,8 +10,8 @@ over zero [] (was ∷ old) = was ∷ old
 over zero (byte ∷ bytes) (was ∷ old) = byte ∷ over zero bytes old
 over (suc at) bytes (was ∷ old) = was ∷ over at bytes old
 
--- the new file is the old one, in which each byte of the range may be the one that was written; behind the old end it may
--- be anything
+-- the new file is the old one, in which each byte of the range may be the one that was written; behind the old end it
+-- may be anything
 abbrev pub Mixes : ℕ → List ℕ → List ℕ → List ℕ → Type 0
 Mixes zero [] old new = new ≡ old
 Mixes zero (byte ∷ bytes) [] new = ⊤
@@ -41,8 +41,8 @@ Follows step old new = (c : List ℕ) → new c → (d : List ℕ) × old d × s
 abbrev pub Only : List ℕ → (List ℕ → Type 0) → Type 0
 Only file may_leave = (c : List ℕ) → may_leave c → c ≡ file
 
--- A call took its time: a crash since an earlier moment might have left what it might have left before the call, or what
--- it may leave now.
+-- A call took its time: a crash since an earlier moment might have left what it might have left before the call, or
+-- what it may leave now.
 pub record Elapses (before now : ℕ) (past since : ℕ → List ℕ → Type 0) (may_leave : List ℕ → Type 0) : Type 0 where
   pub later : before ≤ now
   pub nothing_else : (t : ℕ) (c : List ℕ) → t ≤ before → since t c → past t c ⊎ may_leave c
@@ -55,7 +55,8 @@ pub record LeavesOnly {D : Type 0} (moment : D → ℕ) (left_since : D → ℕ 
   -- from any earlier moment on, it leaves these or what it might have left by then
   pub before : (t : ℕ) (c : List ℕ) → t ≤ moment old → left_since new t c → left_since old t c ⊎ P c
 
--- A call of a file gives up with `Failed` only if the disk has failed during it, and never for want of room or of a text.
+-- A call of a file gives up with `Failed` only if the disk has failed during it, and never for want of room or of a
+-- text.
 pub record HasCause {T : Type 0} (before now : ℕ) (result : Result T JournalFault) : Type 0 where
   pub later : before ≤ now
   pub failed : IsErrOf result Failed → before < now

@@ -68,8 +68,8 @@ pub trait Device {
 
 /// A file whose place another may take at once, as by a rename.
 pub trait Replace: Device {
-    /// Puts another file, all of it on the disk, in the place of this one: a crash leaves the one or the other. Gives up
-    /// as `write_at` does, and then the place has the one or the other too.
+    /// Puts another file, all of it on the disk, in the place of this one: a crash leaves the one or the other. Gives
+    /// up as `write_at` does, and then the place has the one or the other too.
     fn replace(&mut self, next: Self) -> Result<(), JournalFault>
         requires synced { Only (Self.Device.seen next) (Self.Device.may_leave next) }
         ensures replaced { OnOk result (Self.Device.seen self.new ≡ Self.Device.seen next) }
@@ -93,8 +93,8 @@ pub trait Unread {
     /// The file that is to be written, if this was all of it.
     ghost file: { Self → Self.File };
 
-    /// Reads the next bytes into the front of the buffer and returns how many they are: 0 at the end of the file, if the
-    /// buffer has a byte. Gives up with `Failed`.
+    /// Reads the next bytes into the front of the buffer and returns how many they are: 0 at the end of the file, if
+    /// the buffer has a byte. Gives up with `Failed`.
     fn read_on(&mut self, buffer: &mut [u8]) -> Result<usize, JournalFault>
         ensures fits { IfOk result (λ n. n ≤ length buffer.new) }
         ensures length { length buffer.new ≡ length buffer.old }

@@ -24,8 +24,8 @@ impl From<io::Error> for JournalFault {
 }
 
 /// Opens the file at a path, and makes it with zeros if there is none. It is locked until it is dropped. A file that
-/// [`open_next`] left beside it is removed. Gives up with `Locked` if another handle has the file, with `NoJournal` if
-/// it is no regular file, and with `Memory` or `Failed`.
+/// [`open_next`] left in its folder is removed. Gives up with `Locked` if another handle has the file, with `NoJournal`
+/// if it is no regular file, and with `Memory` or `Failed`.
 pub fn open(runtime: &HostRuntime, path: &str) -> Result<UnreadDisk, JournalFault>
     ensures read { IfOk result (λ unread. disk_read unread ≡ []) }
 {
