@@ -32,6 +32,7 @@ bit_back : (bit : Bool) → ((if bit then 1 else 0) == 1) ≡ bit
 bit_back true = refl
 bit_back false = refl
 
+-- a number of at most 1 comes back from its bit
 number_back : (n : ℕ) → n ≤ 1 → (if n == 1 then 1 else 0) ≡ n
 number_back n few = by_test (n == 1) (λ t. rw t (grind (arith, nat_tests))) (λ t. rw t (grind (arith, nat_tests)))
 
