@@ -1,5 +1,5 @@
 -- Laws of the rows in places: what an edit of a place does to the rows, and how many there are.
-use Rattle.row_groups.proofs.Common.{Bool, ◌≡◌, ◌≢◌, refl, ap, subst, ℕ, zero, suc, ◌+◌, ◌<◌, ◌≤◌, List, [], ◌∷◌, ◌++◌, true, false, length, get_or, set, take, Option, Some, None, IsSome, arith, ◌==◌, nat_lt, nat_le, nat_tests, is_some, option_map, option_to_list, AllByRecursion, count_by, sum_by-cons, row_at, with_row, with_row_at, without_row, absent_below, each-weaker, with_row-front, without_row_absent, HasKeys, filled, filled-behind, filled-found, map, keys_from, filter, filter-append, map-append, append-nil, IsPut, Result, Refusal, Ok, Err}
+use Rattle.row_groups.proofs.Common.{Bool, ◌≡◌, ◌≢◌, refl, ap, subst, ℕ, zero, suc, ◌+◌, ◌<◌, ◌≤◌, List, [], ◌∷◌, ◌++◌, true, false, length, get_or, set, take, Option, Some, None, IsSome, arith, ◌==◌, nat_lt, nat_le, nat_tests, is_some, option_map, option_to_list, AllByRecursion, count_by, sum_by-cons, row_at, with_row, with_row_at, without_row, absent_below, each-weaker, with_row-front, without_row_absent, HasKeys, filled, filled-behind, filled-found, map, keys_from, filter, filter-append, map-append, append-nil}
 
 module _ {D R : Type 0} (row : ℕ → D → R) (key : R → ℕ) (at : ℕ → ℕ) (keys : HasKeys row key at) where
   -- a row put into a free place

@@ -1,5 +1,5 @@
 -- The rules of groups of Call_Forwarding rows, and their words.
-use Rattle.row_groups.proofs.Common.{◌≡◌, ◌∙◌, ◌≢◌, ◌≤◌, ◌<◌, ◌+◌, ◌*◌, ◌==◌, ◌∷◌, [], ℕ, zero, suc, refl, List, Option, None, Some, IsTrue, false, true, arith, nat_tests, both_from, length, get_or, is_some, row_at, ForwardingData, AreForwardings, forwarding_keys, forwarding_row, forwarding_start, filled, filled-found, filled-ordered, is_start_time, forwarding_at, forwarding_data, forwarding_with, option_map, set, sym, subst, without_row, with_row_at, IsPut, IsSome, Ok, Err, Exists, CallForwardingRow, is_in_time, map, filter, option_to_list, ap, nat_le, nat_lt}
+use Rattle.row_groups.proofs.Common.{◌≡◌, ◌∙◌, ◌≢◌, ◌≤◌, ◌<◌, ◌*◌, ◌∷◌, [], ℕ, zero, suc, refl, List, Option, None, Some, IsTrue, false, true, arith, nat_tests, both_from, length, get_or, is_some, row_at, ForwardingData, AreForwardings, forwarding_keys, forwarding_row, forwarding_start, filled, filled-found, filled-ordered, is_start_time, forwarding_at, forwarding_data, forwarding_with, option_map, set, sym, subst, without_row, with_row_at, IsPut, IsSome, Ok, Err, Exists, CallForwardingRow, is_in_time, map, filter, option_to_list, ap, nat_le, nat_lt}
 use Rattle.row_groups.proofs.FilledLemmas.{filled-each, filled-missing, filled-taken}
 use Rattle.row_groups.proofs.GroupLemmas.{put_free, put_over, put_refused}
 

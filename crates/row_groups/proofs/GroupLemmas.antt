@@ -1,7 +1,7 @@
 -- Laws of groups: what a look at a place, a put and a removal say of the rows, and the rows from a key on, place by
 -- place.
-use Rattle.row_groups.proofs.Common.{◌≡◌, ◌∙◌, ◌≤◌, ◌<◌, ◌+◌, ◌++◌, ℕ, zero, suc, refl, sym, subst, List, Option, arith, length, get_or, get_or_past, set, map, take, take_all, option_map, option_to_list, true, false, Bool, IsSome, is_some, Some, None, Ok, Err, Exists, is_between, nat_le, nat_tests, by_test, both_from, absent_below, IsPut, filter, keys_from, row_at, with_row_at, without_row, HasKeys, filled, filled-above, filled-found}
-use Rattle.row_groups.proofs.FilledLemmas.{chosen-more, filled-put, filled-replaced, filled-taken, found-taken, free-found, listed-more, listed-same, taken-found}
+use Rattle.row_groups.proofs.Common.{◌≡◌, ◌∙◌, ◌≤◌, ◌<◌, ◌+◌, ◌++◌, ℕ, zero, suc, refl, sym, subst, List, Option, arith, length, get_or, get_or_past, set, map, take, take_all, option_map, option_to_list, true, false, Bool, IsSome, is_some, Some, None, Ok, Err, Exists, is_between, nat_le, nat_tests, by_test, both_from, absent_below, IsPut, filter, keys_from, row_at, with_row_at, HasKeys, filled, filled-above, filled-found}
+use Rattle.row_groups.proofs.FilledLemmas.{chosen-more, filled-put, filled-replaced, found-taken, free-found, listed-more, listed-same, taken-found}
 
 module _ {D R : Type 0} (row : ℕ → D → R) (key : R → ℕ) (at : ℕ → ℕ) (keys : HasKeys row key at) where
   -- a row is put into the free place of its key

@@ -1,4 +1,4 @@
-use Rattle.row_groups.proofs.Common.{◌≡◌, IsSome, arith, refl, sym, access_data, access_keys, access_row, access_type, access_with, row_at, with_row_at_absent}
+use Rattle.row_groups.proofs.Common.{IsSome, arith, refl, sym, access_data, access_keys, access_row, access_type, access_with, row_at, with_row_at_absent}
 use Rattle.row_groups.proofs.GroupLemmas.{put_over}
 use Rattle.row_groups.proofs.FilledLemmas.{none_mapped, some_mapped}
 use Rattle.row_groups.proofs.accesses.Accesses.replace.Goals as goal

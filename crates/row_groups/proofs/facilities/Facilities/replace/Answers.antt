@@ -1,4 +1,4 @@
-use Rattle.row_groups.proofs.Common.{◌≡◌, IsSome, arith, refl, sym, facility_data, facility_keys, facility_row, facility_type, facility_with, row_at, with_row_at_absent}
+use Rattle.row_groups.proofs.Common.{IsSome, arith, sym, facility_keys, facility_row, facility_type, facility_with, row_at, with_row_at_absent}
 use Rattle.row_groups.proofs.GroupLemmas.{put_over}
 use Rattle.row_groups.proofs.FilledLemmas.{none_mapped, some_mapped}
 use Rattle.row_groups.proofs.facilities.Facilities.replace.Goals as goal

@@ -1,4 +1,4 @@
-use Rattle.row_groups.proofs.Common.{◌≡◌, ◌∙◌, arith, get_or, sym, None, Option, Some, ForwardingData}
+use Rattle.row_groups.proofs.Common.{◌≡◌, ◌∙◌, arith, get_or, sym, None, Some}
 use Rattle.row_groups.proofs.FilledLemmas.{read_place}
 use Rattle.row_groups.proofs.ForwardingLemmas.{ends_early, number_chosen, number_in, number_out, starts_late}
 use Rattle.row_groups.proofs.forwardings.Forwardings.number_at.Goals.{else-place-start_time-via-then-place-start_time+else-end_time-fields, else-place-start_time-via-else-place-start_time}
