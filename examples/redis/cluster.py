@@ -1,5 +1,5 @@
-"""Makes registers for twelve blocks of 100,000 numbers in a cluster, adds a subscriber, moves it, and prints where it is and
-the sums of the areas. REDIS_URL names a node of the cluster; without it, it is the one at port 7001 on this machine."""
+"""Makes registers for twelve blocks of 100,000 numbers in a cluster, adds a subscriber, moves it, and prints where it is
+and the sums of the areas. REDIS_URL names a node of the cluster; without it, it is the one at port 7001 on this machine."""
 import logging
 import os
 
