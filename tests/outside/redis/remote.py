@@ -243,8 +243,8 @@ def example(node):
     """The example of a cluster prints what docs/REDIS.md shows, and leaves no register."""
     with open(os.path.join(EXAMPLES, "../../docs/REDIS.md"), encoding="utf-8") as page:
         wanted = re.search(r"^```text\n(\(Register\(.*?)^```", page.read(), re.M | re.S).group(1)
-    done = subprocess.run([sys.executable, os.path.join(EXAMPLES, "cluster.py")], stdout=subprocess.PIPE, stderr=subprocess.STDOUT,
-                          text=True, env={**os.environ, "REDIS_URL": f"redis://127.0.0.1:{node.port}"})
+    done = subprocess.run([sys.executable, os.path.join(EXAMPLES, "cluster.py")], stdout=subprocess.PIPE,
+                          stderr=subprocess.STDOUT, text=True, env={**os.environ, "REDIS_URL": f"redis://127.0.0.1:{node.port}"})
     same("the example of a cluster", done.stdout, wanted)
 
 
