@@ -5,8 +5,8 @@
 #   PREFIX=/usr/local DESTDIR= ./dist.sh install  puts that tree below DESTDIR, to be used below PREFIX
 #
 # The tree works wherever it stands: bin/hlr, lib/libhlr.a, lib/libhlr.so.1, lib/redis/modules/hlr.so, lib/pkgconfig/hlr.pc,
-# include/hlr.h, include/hlr.hpp, share/man/man1/hlr.1, the Python package in lib/python3/dist-packages, examples in
-# share/doc/hlr. The Redis module is built without Redis.
+# include/hlr.h, include/hlr.hpp, share/man/man1/hlr.1, the Python package in lib/python3/dist-packages, pages and examples
+# in share/doc/hlr. The Redis module is built without Redis.
 # Both packages come out byte for byte the same whenever they are made of the same files: their times are
 # SOURCE_DATE_EPOCH, or else that of the last commit. It needs rt, gcc and binutils, and for the
 # Debian package dpkg-deb. CC may name another compiler.
@@ -27,14 +27,15 @@ header=crates/hlr_c/hlr.h
 soname=libhlr.so.1
 package=lib/python3/dist-packages/hlr
 module=lib/redis/modules/hlr.so
-examples=share/doc/hlr/examples
+pages=share/doc/hlr
+examples=$pages/examples
 version=$(sed -n 's/^const VERSION: &str = "\(.*\)";$/\1/p' crates/hlr/src/options.rt)
 [ -n "$version" ] || stop 'crates/hlr/src/options.rt tells no VERSION'
 
 # files TO PREFIX: copies the tree to a folder, for use below PREFIX.
 files() {
   install -d "$1/bin" "$1/include" "$1/lib/pkgconfig" "$1/${module%/*}" "$1/share/man/man1" "$1/$package" \
-    "$1/$examples/live" "$1/$examples/redis"
+    "$1/$pages/docs" "$1/$examples/live" "$1/$examples/redis"
   install -m 755 "$dist/bin/hlr" "$1/bin/"
   install -m 644 "$dist/include/hlr.h" "$dist/include/hlr.hpp" "$1/include/"
   install -m 644 "$dist/lib/libhlr.a" "$dist/lib/$soname" "$1/lib/"
@@ -43,6 +44,8 @@ files() {
   install -m 644 "$dist/share/man/man1/hlr.1" "$1/share/man/man1/"
   install -m 644 "$dist/$package"/*.py "$dist/$package/built.txt" "$1/$package/"
   ln -sf "../../../$soname" "$1/$package/$soname"
+  install -m 644 "$dist/$pages"/*.md "$1/$pages/"
+  install -m 644 "$dist/$pages/docs"/* "$1/$pages/docs/"
   install -m 644 "$dist/$examples"/*.* "$1/$examples/"
   install -m 644 "$dist/$examples/live"/* "$1/$examples/live/"
   install -m 644 "$dist/$examples/redis"/* "$1/$examples/redis/"
@@ -99,11 +102,22 @@ built() {
     "${library##*/} $(sha256sum < "$library" | cut -d ' ' -f 1)" "commit $commit" "kit $(rt version)"
 }
 
+# page FILE: copies a page of the repository to where it lies in the tree. A link to the header leads to the one that is
+# installed, and one to a file of the sources alone becomes plain text.
+page() {
+  local top
+  top=$(dirname "$1" | sed 's,^\.$,,; s,[^/][^/]*,..,g; s,$,/,; s,^/$,,')
+  sed -e "s,](${top}crates/hlr_c/hlr\.h,](${top}../../../include/hlr.h,g" \
+    -e "s,\[\([^]]*\)\](${top}\(crates/\|bench/\|CONTRIBUTING\.md\)[^)]*),\1,g" "$1" > "$dist/$pages/$1"
+  chmod 644 "$dist/$pages/$1"
+}
+
 # tree: fills dist/ but for the packages.
 tree() {
+  local each
   rm -rf "$dist"
   install -d "$dist/bin" "$dist/include" "$dist/lib/pkgconfig" "$dist/${module%/*}" "$dist/share/man/man1" "$dist/$package" \
-    "$dist/$examples/live" "$dist/$examples/redis"
+    "$dist/$pages/docs" "$dist/$examples/live" "$dist/$examples/redis"
   install -m 755 "$program" "$dist/bin/hlr"
   install -m 644 "$header" crates/hlr_c/hlr.hpp "$dist/include/"
   linked
@@ -117,6 +131,8 @@ tree() {
   install -m 644 examples/library/*.{c,cc,py} tests/outside/library/day.cc examples/*.csv examples/client.* "$dist/$examples/"
   install -m 644 examples/live/* "$dist/$examples/live/"
   install -m 644 examples/redis/* "$dist/$examples/redis/"
+  for each in README.md CHANGELOG.md docs/*.md examples/README.md; do page "$each"; done
+  install -m 644 docs/*.svg docs/*.png "$dist/$pages/docs/"
   "$program" --help < /dev/null | awk -v version="$version" -v day="$(date -d "@$epoch" +%F)" -f tools/man.awk > "$dist/share/man/man1/hlr.1"
 }
 

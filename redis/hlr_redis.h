@@ -46,8 +46,9 @@ void store_counts(struct store *store, int64_t counts[HLR_CELLS]);
 
 redis_type *store_type_made(redis_context *ctx);
 
-/* Ends the server, because it would otherwise continue with other rows than its master or its own earlier run. */
-_Noreturn void end_server(redis_context *ctx, const char *what, const char *why);
+/* Ends the server, because it can't repeat a command that its master or its own earlier run has done, and would
+ * otherwise continue with other rows. */
+_Noreturn void end_server(redis_context *ctx, const char *command, const char *why);
 
 /* ---- fields.c: the numbers and letters that a command is given ---- */
 

@@ -45,10 +45,13 @@ void store_counts(struct store *store, int64_t counts[HLR_CELLS]) {
     for (int cell = 0; cell < HLR_CELLS; cell++) counts[cell] += unposted[cell];
 }
 
-_Noreturn void end_server(redis_context *ctx, const char *what, const char *why) {
-    redis.Log(ctx, "warning",
-              "%s was done before and is refused now, so this server ends rather than continue with other rows: %s", what, why);
+static _Noreturn void end_for(redis_context *ctx, const char *what, const char *outcome, const char *why) {
+    redis.Log(ctx, "warning", "%s %s, so this server ends rather than continue with other rows: %s", what, outcome, why);
     exit(1);
+}
+
+_Noreturn void end_server(redis_context *ctx, const char *command, const char *why) {
+    end_for(ctx, command, "was done before and can't be repeated", why);
 }
 
 /* ---- saving: BGSAVE, full syncs and rewrites do it in a forked child, where hlr.h allows calls that read ---- */
@@ -113,7 +116,8 @@ static void type_digest(redis_digest *digest, void *value) {
  */
 static void end_if_kept(redis_context *ctx, uint8_t code) {
     int flags = redis.GetContextFlags(ctx), is_loading = flags & REDIS_IS_LOADING;
-    if (is_loading ? code == HLR_MEMORY : flags & REDIS_IS_REPLICA) end_server(ctx, "a register", refusal_text(code));
+    if (is_loading ? code == HLR_MEMORY : flags & REDIS_IS_REPLICA)
+        end_for(ctx, "a register", "that was stored before can't be loaded", refusal_text(code));
 }
 
 static int load_threads;

@@ -64,8 +64,8 @@ installed() {
   files=$(printf '%s\n' bin/hlr include/hlr.h include/hlr.hpp lib/libhlr.a lib/libhlr.so lib/libhlr.so.1 lib/pkgconfig/hlr.pc $module \
     python/hlr/*.py $python/built.txt $python/libhlr.so.1 share/man/man1/hlr.1 examples/day.{c,cc,py} \
     examples/first.{c,cc,py} examples/parts.{c,py} examples/save.c examples/backup.py examples/*.csv \
-    examples/client.{py,sh} examples/live/*.* examples/redis/*.* |
-    sed "s,^python/hlr,$python,; s,^examples,share/doc/hlr/&," | sort)
+    examples/client.{py,sh} examples/live/*.* examples/redis/*.* README.md CHANGELOG.md docs/*.{md,svg,png} examples/README.md |
+    sed "s,^python/hlr,$python,; s,^\(README\.\|CHANGELOG\.\|docs/\|examples/\),share/doc/hlr/&," | sort)
   is 'dist.sh install' "$(PREFIX=$room/prefix "$room/one/dist.sh" install 2>&1; echo "$?")" 0
   is 'what it installs' "$(cd "$room/prefix" && find . ! -type d | sed 's/^..//' | sort)" "$files"
   is 'dist.sh install below a folder' "$(umask 077; PREFIX=/opt/hlr DESTDIR=$room/root "$room/one/dist.sh" install 2>&1; echo "$?")" 0
@@ -74,6 +74,23 @@ installed() {
   chmod 644 "$room/root/opt/hlr/lib/pkgconfig/hlr.pc"
   alike 'both installs' "$room/root/opt/hlr" "$room/prefix"
   is 'the installed program' "$("$room/prefix/bin/hlr" --version)" "hlr $version"
+}
+
+# linked_pages: each link of an installed page leads to a file that is installed, and the pages have all of their words.
+linked_pages() {
+  local page target lost='' count=0
+  for page in "$room/prefix/share/doc/hlr"/{,docs/,examples/}*.md; do
+    while read -r target; do
+      count=$((count + 1))
+      [ -e "${page%/*}/$target" ] || lost+=" ${page##*/}:$target"
+    done < <(grep -oE '\]\([^)#: ]+' "$page" | sed 's/^](//')
+  done
+  is 'links of the installed pages that lead nowhere' "$lost" ''
+  is 'the installed pages have links' "$([ "$count" -gt 100 ] && echo yes)" yes
+  for page in README.md CHANGELOG.md docs/*.md examples/README.md; do
+    is "words of the installed $page" "$(sed 's/\](\([^)]*\))/]/g; s/[][]//g' "$room/prefix/share/doc/hlr/$page" | cksum)" \
+      "$(sed 's/\](\([^)]*\))/]/g; s/[][]//g' "$page" | cksum)"
+  done
 }
 
 # linked NAME PROGRAM WANTED: whether it asks for the shared library, 1 or 0.
@@ -214,6 +231,7 @@ if tool dpkg-deb 'the Debian package'; then deb=hlr_${version}_amd64.deb; fi
 made
 names
 installed
+linked_pages
 if tool pkg-config 'clients by hlr.pc'; then
   clients "$room/prefix"
   # the tar ball, unpacked anywhere

@@ -126,7 +126,7 @@ class Files(threading.Thread):
         except RuntimeError:
             self.ended += 1
             log = server.log()
-            if "hlr.load was done before and is refused now" not in log or server.child.returncode != 1:
+            if "hlr.load was done before and can't be repeated, so this server ends" not in log or server.child.returncode != 1:
                 self.wrong.append((server.child.returncode, log[-1500:]))
             return
         self.started += 1

@@ -239,11 +239,21 @@ def moved_alone(cluster, nodes):
     same("what was read meanwhile", wrong[:1], [])
 
 
+def example(node):
+    """The example of a cluster prints what docs/REDIS.md shows, and leaves no register."""
+    with open(os.path.join(EXAMPLES, "../../docs/REDIS.md"), encoding="utf-8") as page:
+        wanted = re.search(r"^```text\n(\(Register\(.*?)^```", page.read(), re.M | re.S).group(1)
+    done = subprocess.run([sys.executable, os.path.join(EXAMPLES, "cluster.py")], stdout=subprocess.PIPE,
+                          stderr=subprocess.STDOUT, text=True, env={**os.environ, "REDIS_URL": f"redis://127.0.0.1:{node.port}"})
+    same("the example of a cluster", done.stdout, wanted)
+
+
 def in_cluster(module):
     logging.disable(logging.ERROR)  # python3-redis logs each slot that has moved
     nodes = [Server(f"node{number}", module, "--cluster-enabled", "yes") for number in range(3)]
     command_line("create", *(f"127.0.0.1:{node.port}" for node in nodes), "--cluster-yes")
     wait_for("the cluster is whole", lambda: is_whole(nodes))
+    example(nodes[0])
     client = redis.RedisCluster("127.0.0.1", nodes[0].port)
     blocks = hlr.remote.blocks_of(1000, 12, size=100, prefix="n")  # n14, n10 and n18 lie in the first slots
     cluster = hlr.remote.Cluster(client, blocks)
