@@ -33,7 +33,8 @@ version=$(sed -n 's/^const VERSION: &str = "\(.*\)";$/\1/p' crates/hlr/src/optio
 
 # files TO PREFIX: copies the tree to a folder, for use below PREFIX.
 files() {
-  install -d "$1/bin" "$1/include" "$1/lib/pkgconfig" "$1/${module%/*}" "$1/share/man/man1" "$1/$package" "$1/$examples/live"
+  install -d "$1/bin" "$1/include" "$1/lib/pkgconfig" "$1/${module%/*}" "$1/share/man/man1" "$1/$package" \
+    "$1/$examples/live" "$1/$examples/redis"
   install -m 755 "$dist/bin/hlr" "$1/bin/"
   install -m 644 "$dist/include/hlr.h" "$dist/include/hlr.hpp" "$1/include/"
   install -m 644 "$dist/lib/libhlr.a" "$dist/lib/$soname" "$1/lib/"
@@ -44,6 +45,7 @@ files() {
   ln -sf "../../../$soname" "$1/$package/$soname"
   install -m 644 "$dist/$examples"/*.* "$1/$examples/"
   install -m 644 "$dist/$examples/live"/* "$1/$examples/live/"
+  install -m 644 "$dist/$examples/redis"/* "$1/$examples/redis/"
   described "$2" > "$1/lib/pkgconfig/hlr.pc"
   chmod 644 "$1/lib/pkgconfig/hlr.pc"
 }
@@ -101,7 +103,7 @@ built() {
 tree() {
   rm -rf "$dist"
   install -d "$dist/bin" "$dist/include" "$dist/lib/pkgconfig" "$dist/${module%/*}" "$dist/share/man/man1" "$dist/$package" \
-    "$dist/$examples/live"
+    "$dist/$examples/live" "$dist/$examples/redis"
   install -m 755 "$program" "$dist/bin/hlr"
   install -m 644 "$header" crates/hlr_c/hlr.hpp "$dist/include/"
   linked
@@ -114,6 +116,7 @@ tree() {
   built > "$dist/$package/built.txt"
   install -m 644 examples/library/*.{c,cc,py} tests/outside/library/day.cc examples/*.csv examples/client.* "$dist/$examples/"
   install -m 644 examples/live/* "$dist/$examples/live/"
+  install -m 644 examples/redis/* "$dist/$examples/redis/"
   "$program" --help < /dev/null | awk -v version="$version" -v day="$(date -d "@$epoch" +%F)" -f tools/man.awk > "$dist/share/man/man1/hlr.1"
 }
 
@@ -133,7 +136,7 @@ package() {
   libc=$(readelf -VW "$dist/bin/hlr" "$dist/lib/$soname" "$dist/$module" | grep -o 'GLIBC_[0-9][0-9.]*' | sed 's/GLIBC_//' | sort -uV | tail -n 1)
   install -d "$root/DEBIAN"
   printf '%s\n' 'Package: hlr' "Version: $version" 'Architecture: amd64' 'Maintainer: nobody <nobody@localhost>' \
-    "Installed-Size: $bytes" "Depends: libc6 (>= $libc)" 'Suggests: python3, redis-server' 'Section: database' 'Priority: optional' \
+    "Installed-Size: $bytes" "Depends: libc6 (>= $libc)" 'Suggests: python3, python3-redis, redis-server' 'Section: database' 'Priority: optional' \
     'Description: home location register with live counts' \
     ' The program hlr, and the register as a library for C, C++ and Python, and as' ' a module for Redis.' > "$root/DEBIAN/control"
   echo 'activate-noawait ldconfig' > "$root/DEBIAN/triggers"

@@ -4,7 +4,7 @@
 #   ./test.sh [--no-install]            both; the last line is 'N passed, N failed'
 #   ./test.sh [--no-install] program    the built programs and the library alone, as they stand in crates/*/out
 #
-# The second takes five minutes at most. Its parts are scripts of tests/outside; each can be run alone.
+# CONTRIBUTING.md says how long they take. The parts of the second are scripts of tests/outside; each can be run alone.
 #
 # Where root runs it and apt-get is there, it first installs from Debian's packages those of the tools below that are missing,
 # and says which; --no-install leaves that out. A part that lacks a tool says what it skips for that reason, and the last line
@@ -12,8 +12,8 @@
 . "$(dirname "$0")/tests/outside/lib.sh" || exit 1
 
 # The packages of Debian 12 that have the tools which the parts call. What every Debian system has isn't listed.
-packages=(binutils chromium clang g++ gcc graphviz libhiredis-dev man-db openssl pkg-config python3 redis-sentinel redis-server redis-tools
-  shellcheck valgrind)
+packages=(binutils chromium clang g++ gcc graphviz libhiredis-dev man-db openssl pkg-config python3 python3-redis redis-sentinel
+  redis-server redis-tools shellcheck valgrind)
 
 # installed: installs the packages that are missing.
 installed() {

@@ -9,6 +9,6 @@ set -euo pipefail
 top=$(cd "$(dirname "$0")/.." && pwd)
 out=$1
 shift
-exec "${CC:-gcc}" -std=gnu11 -O2 -fPIC -fvisibility=hidden -Wall -Wextra -Wconversion -Werror -I"$top/crates/hlr_c" -I"$top/redis" -shared -o "$out" \
-  "$top"/redis/{add,fields,hlr_redis,memory,reads,replies,rows,type,walk,writes}.c "$@" -Wl,--wrap=malloc,--wrap=realloc,--wrap=free \
+exec "${CC:-gcc}" -std=gnu11 -O2 -pthread -fPIC -fvisibility=hidden -Wall -Wextra -Wconversion -Werror -I"$top/crates/hlr_c" -I"$top/redis" -shared -o "$out" \
+  "$top"/redis/{add,fields,hlr_redis,loading,memory,reads,replies,rows,type,walk,writes}.c "$@" -Wl,--wrap=malloc,--wrap=realloc,--wrap=free \
   -Wl,--version-script="$top/redis/hlr.map" -Wl,-z,relro -Wl,-z,now -Wl,-z,noexecstack -Wl,--build-id=none

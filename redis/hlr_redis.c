@@ -11,21 +11,25 @@
  * numbers, and codes into replies. A read of a row that doesn't exist replies null. A write that is refused replies
  * an error whose first word is the code.
  *
- * A register has one part, because parts are for threads and Redis runs all commands in one thread. Its counts are
- * the sums of the published and the unposted counts of hlr_views.
+ * A register has one part, because parts are for threads and Redis runs all commands in one thread. It has several
+ * only while threads load or copy it. Its counts are the sums of the published and the unposted counts of hlr_views.
  *
  * The rules of hlr.h for callers are kept in this way:
  *
  *   - One call at a time works on a register, because Redis runs commands in its main thread. The thread that frees
  *     an unlinked register receives it through a queue with a lock.
  *   - A forked child makes only calls that read, and Redis forks between two commands, when no call is at work.
- *   - A call has 64 KB of stack, because Redis gives its threads 4 MB or more.
+ *   - A call has 64 KB of stack, because Redis gives its threads 4 MB or more, and the threads that load have the
+ *     system's usual size.
  *
  * The files: memory.c counts the memory of registers, type.c has the data type, walk.c reads all rows in order,
- * rows.c turns rows into bytes and back, fields.c reads words, replies.c writes replies, and reads.c, writes.c and
- * add.c have the commands. This file describes the commands to Redis.
+ * rows.c turns rows into bytes and back, loading.c loads them with several threads, fields.c reads words, replies.c
+ * writes replies, and reads.c, writes.c and add.c have the commands. This file describes the commands to Redis.
  */
+#define _GNU_SOURCE /* for sched_getaffinity */
 #include "hlr_redis.h"
+#include "rows.h"
+#include <sched.h>
 #include <string.h>
 
 #define MODULE_VERSION (HLR_VERSION_MAJOR * 10000 + HLR_VERSION_MINOR * 100 + HLR_VERSION_PATCH)
@@ -163,7 +167,6 @@ static int is_made(redis_context *ctx, const struct command *command) {
         .sizes = &sizes,
         .summary = command->summary,
         .complexity = command->complexity,
-        .since = "0.4.0",
         .arity = command->arity,
         .key_specs = key ? specs : NULL,
         .arguments = command->arguments,
@@ -180,11 +183,36 @@ static void tell_info(redis_info *to, int for_crash_report) {
     redis.InfoAddFieldULongLong(to, "memory", bytes_of_all());
 }
 
+/* How many threads load a register if nothing is said: one for each processor that the server may use, up to LOADERS,
+ * but none if there is only one. */
+static int usual_threads(void) {
+    cpu_set_t processors;
+    if (sched_getaffinity(0, sizeof processors, &processors) != 0) return 0;
+    int count = CPU_COUNT(&processors);
+    return count == 1 ? 0 : count < LOADERS ? count : LOADERS;
+}
+
+/* The number of threads that the words behind the module's path ask for. They are LOAD-THREADS and a number, or none.
+ * Other words give UINT64_MAX. */
+static uint64_t wanted_threads(redis_string **argv, int argc) {
+    if (argc == 0) return (uint64_t)usual_threads();
+    return argc == 2 && is_word(argv[0], "LOAD-THREADS") ? number_of(text_of(argv[1])) : UINT64_MAX;
+}
+
+static int is_configured(redis_context *ctx, redis_string **argv, int argc) {
+    uint64_t threads = wanted_threads(argv, argc);
+    if (threads <= LOADERS)
+        store_loads_with((int)threads);
+    else
+        redis.Log(ctx, "warning", "hlr.so takes LOAD-THREADS and a number from 0 to %d, and nothing else", LOADERS);
+    return threads <= LOADERS;
+}
+
 __attribute__((visibility("default"))) int RedisModule_OnLoad(redis_context *ctx, redis_string **argv, int argc);
 
 int RedisModule_OnLoad(redis_context *ctx, redis_string **argv, int argc) {
-    (void)argv, (void)argc;
     if (redis_begin(ctx, "hlr", MODULE_VERSION) != REDIS_OK) return REDIS_ERR;
+    if (!is_configured(ctx, argv, argc)) return REDIS_ERR;
     redis.SetModuleOptions(ctx, REDIS_HANDLES_IO_ERRORS | REDIS_SIGNALS_CHANGES | REDIS_HANDLES_LOADING_ASIDE);
     store_type = store_type_made(ctx);
     if (!store_type) return REDIS_ERR;

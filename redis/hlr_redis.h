@@ -24,6 +24,9 @@ void *try_alloc(size_t bytes);
  * and returns the code. Call it after each call that may take or give back memory. */
 uint8_t settled(struct store *store, uint8_t code);
 
+/* What the calls of this thread took since it was last called or settled, less what they gave back, modulo 2^64. */
+size_t bytes_taken_here(void);
+
 /* The memory of all registers of the server. */
 size_t bytes_of_all(void);
 
@@ -34,6 +37,9 @@ struct store *store_new(uint64_t width, uint8_t *code);
 void store_free(void *store);
 size_t store_memory(const void *store);
 unsigned long long stores_in_all(void);
+
+/* How many threads add rows when a register is loaded or copied, 0..=LOADERS. */
+void store_loads_with(int threads);
 
 /* Adds up the published and the unposted count of each cell, which gives the counts of the rows. */
 void store_counts(struct store *store, int64_t counts[HLR_CELLS]);

@@ -62,9 +62,14 @@ void *__wrap_realloc(void *block, size_t bytes) {
     return moved;
 }
 
-uint8_t settled(struct store *store, uint8_t code) {
-    store->bytes += taken;
+size_t bytes_taken_here(void) {
+    size_t bytes = taken;
     taken = 0;
+    return bytes;
+}
+
+uint8_t settled(struct store *store, uint8_t code) {
+    store->bytes += bytes_taken_here();
     return code;
 }
 

@@ -134,7 +134,8 @@ static uint8_t add_subscriber_of(hlr *handle, const uint8_t *head) {
 }
 
 /* The first pass, which also checks that the block consists of whole subscribers. */
-static uint8_t add_subscribers(hlr *handle, const uint8_t *block, const uint8_t *end) {
+uint8_t subscribers_of_block(hlr *handle, const uint8_t *block, size_t length) {
+    const uint8_t *end = block + length;
     uint8_t code = HLR_DONE;
     while (block < end && code == HLR_DONE) {
         uint64_t kinds = end - block < HEAD ? 0 : get(block + KINDS, 3);
@@ -199,18 +200,25 @@ static uint8_t add_forwardings(hlr_part *part, const uint8_t *block, const uint8
     return HLR_DONE;
 }
 
+uint64_t first_of_block(const uint8_t *block, size_t length) { return length < HEAD ? 0 : get(block, 4); }
+
+uint8_t other_rows_of_block(hlr_part *part, const uint8_t *block, size_t length) {
+    const uint8_t *end = block + length;
+    uint8_t code = add_accesses(part, block, end);
+    if (code == HLR_DONE) code = add_facilities(part, block, end);
+    if (code == HLR_DONE) code = add_forwardings(part, block, end);
+    return code;
+}
+
 /* The register's own call adds a forwarding by the subscriber's number, and so has to look each number up. The
  * calls on a lent part take the s_id instead. So the part is lent while the rows of the last three tables are
  * added. */
 uint8_t rows_of_block(hlr *handle, const uint8_t *block, size_t length) {
-    const uint8_t *end = block + length;
     hlr_part part = HLR_CLOSED;
-    uint8_t code = add_subscribers(handle, block, end);
+    uint8_t code = subscribers_of_block(handle, block, length);
     if (code == HLR_DONE) code = hlr_lend(handle, 0, &part);
     if (code != HLR_DONE) return code;
-    code = add_accesses(&part, block, end);
-    if (code == HLR_DONE) code = add_facilities(&part, block, end);
-    if (code == HLR_DONE) code = add_forwardings(&part, block, end);
+    code = other_rows_of_block(&part, block, length);
     hlr_home(&part);
     hlr_back(handle, 0);
     return code;

@@ -116,19 +116,27 @@ static void end_if_kept(redis_context *ctx, uint8_t code) {
     if (is_loading ? code == HLR_MEMORY : flags & REDIS_IS_REPLICA) end_server(ctx, "a register", refusal_text(code));
 }
 
+static int load_threads;
+
+void store_loads_with(int threads) { load_threads = threads; }
+
 /* Loads blocks up to the empty one. */
 static uint8_t load_blocks(redis_io *io, struct store *store) {
-    for (uint8_t code = HLR_DONE; code == HLR_DONE;) {
+    struct loading loading;
+    uint8_t code = HLR_DONE;
+    int is_end = 0;
+    loading_begin(&loading, &store->handle, load_threads, bytes_taken_here);
+    while (!is_end && code == HLR_DONE) {
         size_t length = 0;
         char *block = redis.LoadStringBuffer(io, &length);
-        if (!block || redis.IsIOError(io)) return HLR_FIELD;
-        int is_end = length == 0;
-        code = HLR_FIELD;
-        if (length <= BLOCK_BYTES) code = settled(store, rows_of_block(&store->handle, (const uint8_t *)block, length));
+        int is_block = block && !redis.IsIOError(io) && length <= BLOCK_BYTES;
+        code = is_block ? settled(store, loading_block(&loading, (const uint8_t *)block, length)) : HLR_FIELD;
+        is_end = length == 0;
         redis.Free(block);
-        if (is_end || code != HLR_DONE) return code;
     }
-    return HLR_DONE;
+    uint8_t ended = settled(store, loading_end(&loading));
+    store->bytes += loading.taken;
+    return code == HLR_DONE ? ended : code;
 }
 
 static void *type_load(redis_io *io, int version) {
@@ -149,17 +157,27 @@ static void *type_load(redis_io *io, int version) {
 }
 
 /* A register is copied block by block, so that COPY uses the same code as saving and loading. */
+static uint8_t copy_blocks(struct store *from, struct store *to) {
+    struct walk walk;
+    struct loading loading;
+    size_t length;
+    uint8_t code = HLR_DONE, *block = redis.Alloc(BLOCK_BYTES);
+    walk_begin(&walk, &from->handle, 0, PAGE_ROWS);
+    loading_begin(&loading, &to->handle, load_threads, bytes_taken_here);
+    while (code == HLR_DONE && (length = block_of_rows(&walk, block)) > 0)
+        code = settled(to, loading_block(&loading, block, length));
+    code = settled(to, loading_end(&loading));
+    to->bytes += loading.taken;
+    redis.Free(block);
+    return code;
+}
+
 static void *type_copy(redis_string *from_key, redis_string *to_key, const void *value) {
     (void)from_key, (void)to_key;
     struct store *from = (struct store *)(uintptr_t)value;
-    struct walk walk;
-    size_t length;
-    uint8_t code, *block = redis.Alloc(BLOCK_BYTES);
+    uint8_t code;
     struct store *to = store_new(width_of(from), &code);
-    walk_begin(&walk, &from->handle, 0, PAGE_ROWS);
-    while (code == HLR_DONE && (length = block_of_rows(&walk, block)) > 0)
-        code = settled(to, rows_of_block(&to->handle, block, length));
-    redis.Free(block);
+    if (to) code = copy_blocks(from, to);
     if (code == HLR_DONE) return to;
     if (to) store_free(to);
     end_if_kept(NULL, code);

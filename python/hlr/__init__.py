@@ -32,7 +32,7 @@ from .refusals import (Away, Code, Elsewhere, Exists, Field, ManyParts, ManyPiec
                        NotOpen, NumberTaken, OutOfRange, Refused, StillOpen, Worn)
 from .register import CELLS, Access, Cell, Facility, Forwarding, Kind, Part, Region, Register, Side, Subscriber
 
-__version__ = "0.3.0"
+__version__ = "0.4.0"
 
 __all__ = [
     "CELLS", "Access", "Away", "Cell", "Code", "Elsewhere", "Exists", "Facility", "Field", "Forwarding", "Kind",

@@ -1,48 +1,68 @@
 """Saves all rows of a register as records of the program hlr, and loads a register from such records."""
 import csv
 import re
-from typing import Any, Callable, Dict, Iterable, Iterator, List, TextIO, Tuple
+from typing import Any, Callable, Dict, Iterable, Iterator, List, Sequence, TextIO
 
-from .refusals import Code, Field, Refused, refusal
-from .register import Access, Facility, Register, Subscriber
+from .refusals import Field, Refused
+from .register import Access, Facility, Forwarding, Register, Subscriber
 
 
 class _Rows:
-    """The rows of a table in the order of their keys, taken for one subscriber or one facility at a time."""
+    """The rows of a table in the order of their keys, taken for one subscriber at a time."""
 
-    def __init__(self, rows: Iterator[Any], key: Callable[[Any], Tuple[int, ...]]) -> None:
-        self._rows, self._key = rows, key
+    def __init__(self, rows: Iterator[Any]) -> None:
+        self._rows = rows
         self._next = next(rows, None)
 
-    def take(self, *key: int) -> Iterator[Any]:
-        """Iterates over the rows with this key, if they are the next ones."""
-        while self._next is not None and self._key(self._next) == key:
+    def take(self, s_id: int) -> Iterator[Any]:
+        """Iterates over the rows of this subscriber, if they are the next ones."""
+        while self._next is not None and self._next.s_id == s_id:
             row, self._next = self._next, next(self._rows, None)
             yield row
 
 
-def _all_fields(register: Register) -> Iterator[List[object]]:
+def subscriber_fields(row: Subscriber) -> List[object]:
+    """Returns the fields of the record sub."""
+    digits = "".join(map(str, row.bits)), "".join(f"{each:x}" for each in row.hexes), row.octets.hex()
+    return [row.s_id, f"{row.sub_nbr:015}", *digits, row.msc_location, row.vlr_location]
+
+
+def access_fields(row: Access) -> List[object]:
+    """Returns the fields of the record acc."""
+    return [row.s_id, row.ai_type, row.data1, row.data2, row.data3, row.data4]
+
+
+def facility_fields(row: Facility) -> List[object]:
+    """Returns the fields of the record fac."""
+    return [row.s_id, row.sf_type, int(row.is_active), row.error_cntrl, row.data_a, row.data_b]
+
+
+def records_of(subscriber: Subscriber, accesses: Iterable[Access], facilities: Iterable[Facility],
+               forwardings: Sequence[Forwarding]) -> Iterator[List[object]]:
+    """Iterates over the records of a subscriber and of the rows that belong to it: each facility is followed by its
+    forwardings."""
+    yield ["sub", *subscriber_fields(subscriber)]
+    for access in accesses:
+        yield ["acc", *access_fields(access)]
+    for facility in facilities:
+        yield ["fac", *facility_fields(facility)]
+        for each in forwardings:
+            if each.sf_type == facility.sf_type:
+                yield ["icf", f"{subscriber.sub_nbr:015}", each.sf_type, each.start_time, each.end_time,
+                       f"{each.numberx:015}"]
+
+
+def _all_records(register: Register) -> Iterator[List[object]]:
     """Iterates over the records of each subscriber and of everything that belongs to them."""
-    accesses = _Rows(register.accesses(), lambda row: (row.s_id,))
-    facilities = _Rows(register.facilities(), lambda row: (row.s_id,))
-    forwardings = _Rows(register.forwardings(), lambda row: (row.s_id, row.sf_type))
+    accesses, facilities, forwardings = map(_Rows, (register.accesses(), register.facilities(), register.forwardings()))
     for row in register.subscribers():
-        s_id, sub_nbr = row.s_id, f"{row.sub_nbr:015}"
-        digits = "".join(map(str, row.bits)), "".join(f"{each:x}" for each in row.hexes), row.octets.hex()
-        yield ["sub", s_id, sub_nbr, *digits, row.msc_location, row.vlr_location]
-        for access in accesses.take(s_id):
-            yield ["acc", s_id, access.ai_type, access.data1, access.data2, access.data3, access.data4]
-        for facility in facilities.take(s_id):
-            yield ["fac", s_id, facility.sf_type, int(facility.is_active), facility.error_cntrl, facility.data_a,
-                   facility.data_b]
-            for each in forwardings.take(s_id, facility.sf_type):
-                yield ["icf", sub_nbr, each.sf_type, each.start_time, each.end_time, f"{each.numberx:015}"]
+        yield from records_of(row, accesses.take(row.s_id), facilities.take(row.s_id), list(forwardings.take(row.s_id)))
 
 
 def save(register: Register, file: TextIO) -> int:
-    """Writes all rows as the records sub, acc, fac and icf, one subscriber after another, and returns how many records
-    there are. Calls of other threads wait meanwhile. Before it writes anything, it raises Moving if a piece is loose,
-    and Away if a part is lent.
+    """Writes all rows, also those in loose pieces, as the records sub, acc, fac and icf, one subscriber after another,
+    and returns how many records there are. Calls of other threads wait meanwhile. Raises Away, before it writes
+    anything, if a part is lent.
 
     >>> import io, sys
     >>> register = load(io.StringIO("sub,7,000000000000077,1000000000,0123456789,000102030405060708ff,1,2\\n"))
@@ -52,9 +72,7 @@ def save(register: Register, file: TextIO) -> int:
     """
     records = 0
     with register.held():
-        if any(region.is_piece for region in register.regions()):
-            raise refusal(Code.MOVING, "save")
-        for fields in _all_fields(register):
+        for fields in _all_records(register):
             print(*fields, sep=",", file=file)
             records += 1
     return records
@@ -112,9 +130,10 @@ _FIELDS = {"sub": 7, "acc": 6, "fac": 6, "icf": 5}
 
 
 def load(file: Iterable[str], parts: int = 1, width: int = 524288) -> Register:
-    """Opens a register of so many parts and of this zone width, and adds the rows of the records sub, acc, fac and icf.
-    Raises ValueError for a record of another kind or with the wrong number of fields. For a record that is refused, it
-    raises the exception of the call that the record asks for, with its line. In both cases it closes the register.
+    """Opens a register of so many parts and of this zone width, neither of which records have, and adds the rows of the
+    records sub, acc, fac and icf. Raises ValueError for a record of another kind or with the wrong number of fields.
+    For a record that is refused, it raises the exception of the call that the record asks for, with its line. In both
+    cases it closes the register.
 
     >>> load(["sub,7,000000000000077,1000000000,0123456789,000102030405060708ff,1,2", "gsd,7"])
     Traceback (most recent call last):

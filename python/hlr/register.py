@@ -114,6 +114,11 @@ def _names() -> Iterator[Tuple[Kind, str]]:
 _NAMES = list(_names())
 
 
+def named_cells(published: Sequence[int], unposted: Sequence[int]) -> Iterator[Cell]:
+    """Iterates over the cells with these counts."""
+    return (Cell(number, *_NAMES[number], published[number], unposted[number]) for number in range(CELLS))
+
+
 def _number(value: int) -> int:
     """Checks that a number has at most 64 bits, because ctypes would cut off the rest."""
     if not 0 <= index(value) < 1 << 64:
@@ -591,8 +596,7 @@ class Register(_Open):
         >>> names[8], names[26], names[71]
         ('hour 8', 'area 2', 'zone 31')
         """
-        published, unposted = self.views()
-        return (Cell(number, *_NAMES[number], published[number], unposted[number]) for number in range(CELLS))
+        return named_cells(*self.views())
 
     def look(self) -> List[int]:
         """Returns the published count of each cell, no matter which parts are lent. Parts may post meanwhile, so the

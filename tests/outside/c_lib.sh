@@ -33,6 +33,6 @@ probed() {
 installable() {
   mkdir "$room/$1"
   cp --parents dist.sh tools/man.awk crates/hlr/src/options.rt crates/hlr_c/hlr.h crates/hlr_c/hlr.hpp "$archive" crates/hlr/out/hlr \
-    python/hlr/*.py examples/live/*.* examples/library/*.{c,cc,py} examples/*.csv examples/client.* \
+    python/hlr/*.py examples/live/*.* examples/redis/*.* examples/library/*.{c,cc,py} examples/*.csv examples/client.* \
     tests/outside/library/day.cc redis/* "$room/$1"
 }

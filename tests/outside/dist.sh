@@ -64,7 +64,7 @@ installed() {
   files=$(printf '%s\n' bin/hlr include/hlr.h include/hlr.hpp lib/libhlr.a lib/libhlr.so lib/libhlr.so.1 lib/pkgconfig/hlr.pc $module \
     python/hlr/*.py $python/built.txt $python/libhlr.so.1 share/man/man1/hlr.1 examples/day.{c,cc,py} \
     examples/first.{c,cc,py} examples/parts.{c,py} examples/save.c examples/backup.py examples/*.csv \
-    examples/client.{py,sh} examples/live/*.* |
+    examples/client.{py,sh} examples/live/*.* examples/redis/*.* |
     sed "s,^python/hlr,$python,; s,^examples,share/doc/hlr/&," | sort)
   is 'dist.sh install' "$(PREFIX=$room/prefix "$room/one/dist.sh" install 2>&1; echo "$?")" 0
   is 'what it installs' "$(cd "$room/prefix" && find . ! -type d | sed 's/^..//' | sort)" "$files"
@@ -162,7 +162,7 @@ in_cpp() {
 packaged() {
   local root=$room/unpacked file=$room/one/dist/$deb
   is 'the Debian package' "$(dpkg-deb -f "$file" Package Version Architecture Suggests)" \
-    $'Package: hlr\nVersion: '"$version"$'\nArchitecture: amd64\nSuggests: python3, redis-server'
+    $'Package: hlr\nVersion: '"$version"$'\nArchitecture: amd64\nSuggests: python3, python3-redis, redis-server'
   dpkg-deb -x "$file" "$root"
   gunzip "$root/usr/share/man/man1/hlr.1.gz"
   PREFIX=/usr DESTDIR=$room/usr "$room/one/dist.sh" install

@@ -3,6 +3,7 @@
 # fence's end. A backslash at its end carries a command on. A command that names a path of the repository runs at the top.
 # Any other one runs in a copy of the examples that dist.sh installs, with the installed program and libraries, as the pages
 # tell their readers. The commands of a page run in their order and in one folder, so that one may use what another made.
+# redis-cli talks to a server that is started with the module and the settings of docs/REDIS.md, and begins each page empty.
 . "$(dirname "$0")/lib.sh" || exit 1
 . tests/outside/c_lib.sh || exit 1
 top=$PWD
@@ -22,9 +23,18 @@ shown() {
 # at_top COMMAND: whether it names a path of the repository.
 at_top() { grep -qE '(^|[^A-Za-z0-9_/.-])(\./)?(bench|crates|docs|examples|python|tests|tools)/|\./[a-z]+\.sh|=python ' <<< "$1"; }
 
-# needs COMMAND: whether the built programs that it names are there.
+# needs COMMAND: whether the built programs that it names are there, and the server if it asks one.
 needs() {
   local programs program
+  if [[ $1 =~ redis-cli|redis/ && -z $server ]]; then return 1; fi
+  if [[ $1 == /usr/bin/python3* ]] && ! (cd / && /usr/bin/python3 -c 'import redis' 2> /dev/null); then
+    skip python3-redis "$1"
+    return 1
+  fi
+  if [[ $1 == *-lhiredis* && ! -f /usr/include/hiredis/hiredis.h ]]; then
+    skip libhiredis-dev "$1"
+    return 1
+  fi
   mapfile -t programs < <(grep -oE 'crates/[a-z_]+/out/[A-Za-z_.]+' <<< "$1" | sort -u)
   for program in ${programs[@]+"${programs[@]}"}; do
     built "$program" "run rt run in ${program%/out/*}" || return
@@ -37,6 +47,7 @@ run_page() {
   folder=$room/pages/$(tr / _ <<< "$1")
   mkdir -p "$room/pages"
   cp -r "$tree/share/doc/hlr/examples" "$folder"
+  [ -z "$server" ] || redis-cli FLUSHALL > "$room/out"
   for each in $(shown "$1"); do
     shown=$((shown + 1))
     command=$(cat "$each")
@@ -48,6 +59,26 @@ run_page() {
   done
 }
 
+# server_started: starts a server on a free port with the lines of docs/REDIS.md, and makes redis-cli talk to it as at a terminal.
+server_started() {
+  local port settings=$room/server/redis.conf program
+  for needed in redis-server redis-cli; do tool "$needed" 'what the pages show of the module' || return; done
+  program=$(command -v redis-cli)
+  mkdir -p "$room/server" "$room/bin"
+  sed -n '/^loadmodule /,/^```$/p' docs/REDIS.md | sed "/^\`\`\`$/d; s,/usr/lib/redis,$tree/lib/redis," > "$settings"
+  is 'settings of docs/REDIS.md' "$(grep -c . "$settings")" 10
+  port=$(python3 -c 'import socket; one = socket.socket(); one.bind(("127.0.0.1", 0)); print(one.getsockname()[1])')
+  # shellcheck disable=SC2016
+  printf '#!/bin/sh\nexec %s -p %s --no-raw "$@"\n' "$program" "$port" > "$room/bin/redis-cli"
+  chmod +x "$room/bin/redis-cli"
+  redis-server "$settings" --bind 127.0.0.1 --port "$port" --dir "$room/server" > "$room/server/log" 2>&1 &
+  server=$!
+  export REDIS_URL=redis://127.0.0.1:$port PATH=$room/bin:$PATH
+  for _ in {1..200}; do [ "$(redis-cli PING 2>&1)" != PONG ] || return 0; sleep 0.05; done
+  fail 'the server of the pages'
+  tail -n 5 "$room/server/log"
+}
+
 for needed in gcc g++ python3 pkg-config; do tool "$needed" 'what the pages show' || finish; done
 program_built || finish
 archive_built || finish
@@ -56,6 +87,9 @@ is 'dist.sh' "$("$room/installed/dist.sh" 2>&1 | grep -v 'no Debian package')" '
 unset HLR_LIBRARY
 export PATH=$tree/bin:$PATH LD_LIBRARY_PATH=$tree/lib PKG_CONFIG_PATH=$tree/lib/pkgconfig
 export PYTHONPATH=$tree/lib/python3/dist-packages PYTHONDONTWRITEBYTECODE=1
+server=
+trap '[ -z "$server" ] || { kill "$server"; wait "$server"; }; rm -rf "$room"' EXIT
+server_started
 shown=0
 for page in README.md CONTRIBUTING.md CHANGELOG.md docs/*.md examples/README.md bench/README.md; do run_page "$page"; done
 is 'pages show commands' "$([ "$shown" -gt 20 ] && echo yes)" yes

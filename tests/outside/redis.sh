@@ -2,8 +2,8 @@
 # The Redis module hlr.so: blocks of rows without a server, and then everything else with real servers of Redis.
 #
 # The servers listen on loopback and on free ports, have folders of their own, and end with the test, by their process ids. A
-# server that the machine runs already isn't used or disturbed. The tests run in two rows side by side, which takes a minute
-# and a half on four processors.
+# server that the machine runs already isn't used or disturbed. The tests run in two rows side by side, which takes two minutes
+# on four processors.
 . "$(dirname "$0")/lib.sh" || exit 1
 . tests/outside/c_lib.sh || exit 1
 here=tests/outside/redis
@@ -32,19 +32,38 @@ compilers() {
   done
 }
 
-# blocks: rows as bytes, under sanitizers and valgrind.
+# blocks NAME WORD ..: rows as bytes, and threads that load them, without a server.
 blocks() {
-  compiled blocks -std=gnu11 -Wconversion "${sanitizers[@]}" -Iredis -Icrates/hlr_c "$here/blocks.c" redis/{rows,walk}.c "$archive" "$(kit_archive)" || return
-  ended 'blocks of rows' /dev/null "$room/blocks" 20000
+  compiled "$1" -std=gnu11 -g -Wconversion -pthread -Wl,--wrap=malloc "${@:2}" -Iredis -Icrates/hlr_c "$here/blocks.c" \
+    redis/{loading,rows,walk}.c "$archive" "$(kit_archive)"
+}
+
+# bytes: blocks of rows under sanitizers and valgrind, with blocks and chunks of the usual size and with small ones, so that
+# a register of few rows is cut into many parts.
+bytes() {
+  local small=(-DBLOCK_BYTES=4096 -DCHUNK_BLOCKS=2)
+  blocks blocks "${sanitizers[@]}" && ended 'blocks of rows' /dev/null "$room/blocks" 20000
+  blocks small "${sanitizers[@]}" "${small[@]}" && ended 'small blocks of rows' /dev/null "$room/small" 2000
+  blocks raced -fsanitize=thread "${small[@]}" && ended 'threads that load' /dev/null "$room/raced" 10
   tool valgrind 'blocks of rows under it' || return
-  compiled blocks -std=gnu11 -g -Iredis -Icrates/hlr_c "$here/blocks.c" redis/{rows,walk}.c "$archive" "$(kit_archive)" || return
-  ended 'blocks of rows under valgrind' /dev/null valgrind -q --leak-check=full --error-exitcode=9 "$room/blocks" 300
+  blocks plain && ended 'blocks of rows under valgrind' /dev/null valgrind -q --leak-check=full --error-exitcode=9 "$room/plain" 300
+}
+
+# python_found: a python3 that has python3-redis, or else any. Only hlr.remote needs it. It is looked for from elsewhere,
+# because the folder redis of the repository has the same name.
+python_found() {
+  for python in python3 /usr/bin/python3; do
+    if (cd / && "$python" -c 'import redis' 2> /dev/null); then return 0; fi
+  done
+  python=python3
+  skip python3-redis 'the package hlr.remote'
+  return 1
 }
 
 # row NAME=MODULE ..: runs these tests one after another. What they print goes to files.
 row() {
   local one
-  for one in "$@"; do timeout -k 10 170 python3 -W error "$here/${one%%=*}.py" "$room/${one#*=}" > "$room/$one.said" 2>&1; done
+  for one in "$@"; do timeout -k 10 170 "$python" -W error "$here/${one%%=*}.py" "$room/${one#*=}" > "$room/$one.said" 2>&1; done
 }
 
 # servers: all tests with servers, in two rows.
@@ -52,6 +71,10 @@ servers() {
   local one first=(replica=gcc.so cluster=gcc.so kept=gcc.so rights=gcc.so commands=clang.so)
   local second=(commands=sanitized.so memory=sanitized.so crash=gcc.so hostile=sanitized.so)
   [ -f "$room/clang.so" ] || cp "$room/gcc.so" "$room/clang.so"
+  if python_found && compiled libhlr.so.1 -shared -Wl,--whole-archive "$archive" -Wl,--no-whole-archive "$(kit_archive)" -Wl,-z,defs; then
+    export PYTHONPATH=$PWD/python HLR_LIBRARY=$room/libhlr.so.1
+    first+=(remote=gcc.so)
+  fi
   HLR_PRELOAD=$(gcc -print-file-name=libasan.so):$(gcc -print-file-name=libubsan.so)
   export HLR_PRELOAD
   row "${first[@]}" &
@@ -66,7 +89,7 @@ servers() {
 tool gcc 'the module hlr.so' || finish
 archive_built || finish
 compilers
-blocks
+bytes
 for needed in redis-server redis-sentinel redis-cli openssl python3; do tool "$needed" 'the module hlr.so in servers' || finish; done
 module sanitized.so gcc "${refusing[@]}" "${sanitizers[@]}" || finish
 [ ! -f "$room/gcc.so" ] || servers

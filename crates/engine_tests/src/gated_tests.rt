@@ -111,8 +111,9 @@ fn submit_reads<R: Threads + Wait + Copy + Send + Sync + 'static>(
     }
 }
 
-/// Fills the queue of the worker, which is held up at its first read, with 16 messages of so many reads, and has 16 more
-/// reads held. Then one more read is submitted: whether that waited until the worker went on, and the replies to all.
+/// Fills the queue of the worker, which is held up at its first read, with 16 messages of so many reads, and has 16
+/// more reads held. Then one more read is submitted: whether that waited until the worker went on, and the replies to
+/// all.
 fn wait_for_place<R: Threads + Wait + Copy + Send + Sync + 'static>(
     rt: &R,
     engine: &mut Engine<Full>,

@@ -178,8 +178,9 @@ impl Gate for Second {
     }
 }
 
-/// A gate that holds a worker up before its first job, until the caller is about to wait for a place in the worker's full
-/// queue, and before its second job, until the caller has gone on, for which the second job was taken out of the queue.
+/// A gate that holds a worker up before its first job, until the caller is about to wait for a place in the worker's
+/// full queue, and before its second job, until the caller has gone on, for which the second job was taken out of the
+/// queue.
 #[derive(Drop)]
 pub struct Full {
     first: Latch,

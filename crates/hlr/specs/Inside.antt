@@ -201,7 +201,7 @@ TakesNext fields before after taken new stalled r =
     (rows : List (List (List ℕ))) (start : Store) (old : Outgoing) → IsUnderway rows start before old taken
     → HasTaken rows fields start after old new stalled r
 
--- all records of the bytes are read, and this holds of them, and a run may answer so many
+-- all records of the bytes are read, and this holds of them, and a run may answer this many
 pub record HasComeToEnd (bytes : List ℕ) (P : List (List (List ℕ)) → Type 0) : Type 0 where
   pub rows : List (List (List ℕ))
   pub few : length rows ≤ RECORDS

@@ -1,6 +1,6 @@
 -- What is said of a source of records, and of where a run over one stops.
 use Rattle.std.specs.Prelude.{◌≡◌, ◌⊎◌, ◌++◌, ◌∷◌, [], ℕ, Bool, true, false, List, length, Option, Some, ⊤}
-use Rattle.csv.specs.Reading.{ExplainsRead, Reached, ReadsNext, Ready, default_config, reader_config, reader_state, reader_trim, source_of}
+use Rattle.csv.specs.Reading.{ExplainsRead, Reached, ReadsNext, Ready, default_config, has_failed, reader_config, reader_state, reader_trim, source_of, stops_reader}
 use Rattle.csv.specs.declared.error.ErrorKind.{ErrorKind}
 use Rattle.csv.specs.declared.parser.State.{State}
 use Rattle.csv.specs.declared.parser.State.TheVariants as st
@@ -29,9 +29,11 @@ unread_by rem reader = record { bytes = source_of rem reader; state = reader_sta
 abbrev pub IsOpenReader : {R : Type 0} → Reader R → Type 0
 IsOpenReader reader = (reader_trim reader ≡ trim.None) × Ready reader × (reader_config reader ≡ default_config)
 
--- a read of a reader of CSV failed, and left it so: all that `csv` says of that
+-- a read of a reader of CSV failed for this reason, and left it so; after a failure of its bytes or for want of memory
+-- the reader gives no further record
 abbrev pub FailsIn : {R : Type 0} → (R → Option (List ℕ)) → Reader R → Reader R → Fault → Type 0
 FailsIn rem before after why = (error : ErrorKind) × (why ≡ read_fault_of error) × ExplainsRead rem before after false error
+    × (has_failed after ≡ stops_reader error)
 
 -- these records of the bytes were read, and what is left behind them is still to be read
 pub record AreRead (bytes : List ℕ) (unread : Unread) (rows : List (List (List ℕ))) : Type 0 where

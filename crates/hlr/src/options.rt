@@ -11,7 +11,7 @@ use std::alloc::{AllocError, Global};
 use tatp_rows::GREATEST_WIDTH;
 
 /// The version that `--version` prints.
-const VERSION: &str = "0.3.0";
+const VERSION: &str = "0.4.0";
 
 /// What the program is, in the first line of `--help`.
 const ABOUT: &str =

@@ -48,9 +48,9 @@ pub use Rattle.view_board.proofs.FillLemmas.{IsFilledTo}
 pub use Rattle.view_board.specs.Nets.{net_of}
 pub use Rattle.view_board.specs.Views.{first_view}
 pub use Rattle.hlr_c.specs.Asked.{asks}
-pub use Rattle.hlr_c.specs.Call.{IsAnswer, IsAwayCode}
+pub use Rattle.hlr_c.specs.Call.{IsAnswer}
 pub use Rattle.hlr_c.specs.Held.{held}
-pub use Rattle.hlr_c.specs.Inside.{AnswersFrom, AreTold, AreWritten, IsAnsweredTo, IsBlock, IsOwn, IsOwnAccess, IsOwnCall}
+pub use Rattle.hlr_c.specs.Inside.{AnswersFrom, AreTold, AreWritten, IsAnsweredTo, IsAwayCode, IsBlock, IsOwn, IsOwnAccess, IsOwnCall}
 pub use Rattle.hlr_c.specs.Many.{AreAsMany, IsPartAccessRead, IsPartDestinationRead, IsPartSubscriberRead}
 pub use Rattle.hlr_c.specs.Parts.{IsPartEdit, IsPartStep, has, read_by}
 pub use Rattle.hlr_c.specs.Reports.{nearest}

@@ -1,6 +1,5 @@
 -- What a call from C does to the handle that it is passed, and what it returns.
 use Rattle.std.specs.Prelude.{◌≡◌, ◌⊎◌, List, ℕ, Option, Some, None, Result, Ok, Err}
-use Rattle.tatp_rows.specs.Refusal.{code_of}
 use Rattle.tatp_rows.specs.declared.refusal.Refusal.{Refusal}
 use Rattle.hlr_owners.specs.Recut.{IsHomeToCut}
 use Rattle.hlr_owners.specs.Owners.{AllHome, OwnersState}
@@ -9,7 +8,6 @@ use Rattle.hlr_core.specs.declared.event.Event.{Event}
 use Rattle.hlr_core.specs.declared.event.Reply.{Reply}
 use Rattle.hlr_core.specs.declared.event.Reply.TheVariants as reply
 use Rattle.hlr_lent.specs.Away.{IsAway}
-use Rattle.hlr_c.specs.declared.codes.TheConstants.{AWAY}
 
 -- a call on a handle: a closed one stays closed, and the answer says so; for an open one, the call does to its register
 -- or part what it should, and the handle keeps that
@@ -34,13 +32,6 @@ abbrev pub IsAnswer : {X : Type 0} → Result Event Refusal → (Reply → X) �
 IsAnswer asked told away before answer after =
     ((answer ≡ away) × IsWaiting asked before × (after ≡ before))
     ⊎ (¬ (IsWaiting asked before) × (said : Reply) × IsReply asked before said after × (answer ≡ told said))
-
--- the code of an event that needs a lent part: that of a refusal that is known without the part, or AWAY
-abbrev pub IsAwayCode : Event → OwnersState → ℕ → Type 0
-IsAwayCode event register code =
-    ((code ≡ AWAY) × IsAway event register)
-    ⊎ (¬ (IsAway event register) × (why : Refusal)
-    × IsRegisterStep event register (reply.Refused why) register × (code ≡ code_of why))
 
 -- a recut to bounds, or the refusal of the bounds that C hands in
 abbrev pub IsRecutReply : Result (List ℕ) Refusal → OwnersState → Result ℕ Refusal → OwnersState → Type 0

@@ -1,16 +1,40 @@
 -- What calls inside the crate promise each other. No clause of a public call cites this.
-use Rattle.std.specs.Prelude.{◌≡◌, ℕ, ◌+◌, ◌-◌, ◌<◌, ◌≤◌, List, length, true, slice_index, slice_index_or}
+use Rattle.std.specs.Prelude.{◌≡◌, ◌⊎◌, ℕ, ◌+◌, ◌-◌, ◌<◌, ◌≤◌, List, length, Option, Some, None, true, slice_index, slice_index_or, ⊤}
+use Rattle.tatp_rows.specs.Refusal.{code_of}
 use Rattle.tatp_rows.specs.Rows.{is_between}
+use Rattle.tatp_rows.specs.declared.refusal.Refusal.{Refusal}
 use Rattle.tatp_rows.specs.declared.ranges.TheConstants.{LAST_SUBSCRIBER}
 use Rattle.tatp_actions.specs.Action.{is_in_range, is_typed}
 use Rattle.tatp_actions.specs.declared.action.Action.TheVariants as action
 use Rattle.holding.specs.Held.{HoldingState}
+use Rattle.hlr_owners.specs.Owners.{OwnersState}
+use Rattle.hlr_core.specs.WhileOut.{IsRegisterStep}
+use Rattle.hlr_core.specs.declared.event.Event.{Event}
+use Rattle.hlr_core.specs.declared.event.Reply.TheVariants as reply
+use Rattle.hlr_lent.specs.Away.{IsAway}
+use Rattle.hlr_lent.specs.Sent.{holding_sent}
+use Rattle.hlr_lent.specs.declared.lent_part.Sent.{Sent}
 use Rattle.hlr_c.specs.Many.{AreAsMany}
 use Rattle.hlr_c.specs.Parts.{has}
+use Rattle.hlr_c.specs.declared.codes.TheConstants.{AWAY}
 use Rattle.hlr_c.specs.declared.rows.HlrAccessAsked.{HlrAccessAsked}
 use Rattle.hlr_c.specs.declared.rows.HlrDestinationAsked.{HlrDestinationAsked}
 
--- places from one up to another of so many, at most 16
+-- the code of an event that needs a lent part: that of a refusal that is known without the part, or AWAY
+abbrev pub IsAwayCode : Event → OwnersState → ℕ → Type 0
+IsAwayCode event register code =
+    ((code ≡ AWAY) × IsAway event register)
+    ⊎ (¬ (IsAway event register) × (why : Refusal)
+    × IsRegisterStep event register (reply.Refused why) register × (code ≡ code_of why))
+
+-- the part of a handle went home as it was, if there was one
+abbrev pub IsSent : Option HoldingState → Option Sent → Type 0
+IsSent None None = ⊤
+IsSent None (Some left) = ⊥
+IsSent (Some kept) None = ⊥
+IsSent (Some kept) (Some left) = holding_sent left ≡ Some kept
+
+-- places from one up to another of this many, at most 16
 abbrev pub IsBlock : ℕ → ℕ → ℕ → Type 0
 IsBlock from to count = (from ≤ to) × (to ≤ count) × (to ≤ from + 16)
 

@@ -1,5 +1,5 @@
 -- Opening and closing, and the parts that handles lend and send home.
-use Rattle.std.specs.Prelude.{◌≡◌, ◌⊎◌, ◌≤◌, ℕ, length, Option, Some, None, ⊤}
+use Rattle.std.specs.Prelude.{◌≡◌, ◌⊎◌, ◌≤◌, ℕ, length, Option, Some, None}
 use Rattle.tatp_rows.specs.Refusal.{code_of}
 use Rattle.tatp_rows.specs.declared.refusal.Refusal.TheVariants.{Field, Memory, NoPart}
 use Rattle.part_table.specs.Regions.{parts_of}
@@ -7,12 +7,10 @@ use Rattle.holding.specs.Held.{HoldingState}
 use Rattle.hlr_owners.specs.Owners.{AllHome, IsLent, IsPartHome, OwnersState, store_in}
 use Rattle.hlr_owners.specs.Store.{HasOpening, opening}
 use Rattle.hlr_lent.specs.Jobs.{IsBack}
-use Rattle.hlr_lent.specs.Sent.{holding_sent}
-use Rattle.hlr_lent.specs.declared.lent_part.Sent.{Sent}
 use Rattle.hlr_c.specs.declared.codes.TheConstants.{AWAY, DONE, NOT_OPEN, STILL_OPEN}
 
 -- an open handle stays as it is, and the answer says so; a closed one gets an empty register, or stays closed, with
--- Field exactly if no register can be opened with so many parts and this width, and with Memory otherwise
+-- Field exactly if no register can be opened with this many parts and this width, and with Memory otherwise
 abbrev pub IsOpening : ℕ → ℕ → Option OwnersState → ℕ → Option OwnersState → Type 0
 IsOpening parts width (Some register) code after = (code ≡ STILL_OPEN) × (after ≡ Some register)
 IsOpening parts width None code (Some register) =
@@ -46,13 +44,6 @@ IsLending part (Some register, Some other) code after = (code ≡ STILL_OPEN) ×
 IsLending part (Some register, None) code (None, lent) = ⊥
 IsLending part (Some register, None) code (Some next, None) = (next ≡ register) × IsKept part register code
 IsLending part (Some register, None) code (Some next, Some lent) = (code ≡ DONE) × IsLent part register lent next
-
--- the part of a handle went home as it was, if there was one
-abbrev pub IsSent : Option HoldingState → Option Sent → Type 0
-IsSent None None = ⊤
-IsSent None (Some left) = ⊥
-IsSent (Some kept) None = ⊥
-IsSent (Some kept) (Some left) = holding_sent left ≡ Some kept
 
 -- a part is home, because it was, or because it was sent home; or it isn't, or there is none, and nothing changes
 abbrev pub IsComing : ℕ → OwnersState → ℕ → OwnersState → Type 0

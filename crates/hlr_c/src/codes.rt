@@ -2,7 +2,7 @@
 ghost use Rattle.std.specs.Prelude.{◌≡◌};
 ghost use Rattle.hlr_core.specs.Home.{IsHomeTo};
 ghost use Rattle.hlr_core.specs.Step.{edited_reply};
-ghost use Rattle.hlr_c.specs.Call.{IsAwayCode};
+ghost use Rattle.hlr_c.specs.Inside.{IsAwayCode};
 ghost use Rattle.hlr_c.specs.Told.{code_told};
 
 use hlr_core::{Event, Refusal, Reply};

@@ -2,7 +2,8 @@
 ghost use Rattle.std.specs.Prelude.{◌≡◌, IfErr, IfOk};
 ghost use Rattle.hlr_owners.specs.Owners.{IsLent};
 ghost use Rattle.hlr_c.specs.Call.{IsCall};
-ghost use Rattle.hlr_c.specs.Opened.{IsClosing, IsComing, IsKept, IsLending, IsSent};
+ghost use Rattle.hlr_c.specs.Inside.{IsSent};
+ghost use Rattle.hlr_c.specs.Opened.{IsClosing, IsComing, IsKept, IsLending};
 ghost use Rattle.hlr_c.specs.declared.codes.TheConstants.{NOT_OPEN};
 
 use crate::codes::{AWAY, DONE, NOT_OPEN, STILL_OPEN};

@@ -202,8 +202,8 @@ pub extern "C" fn hlr_next_facilities(
     })
 }
 
-/// Writes the first Call_Forwarding rows from a forwarding on, by s_id, then sf_type, then start_time, and how many they
-/// are, as `hlr_next_subscribers` does. `NOT_OPEN`, `AWAY` where any part is out.
+/// Writes the first Call_Forwarding rows from a forwarding on, by s_id, then sf_type, then start_time, and how many
+/// they are, as `hlr_next_subscribers` does. `NOT_OPEN`, `AWAY` where any part is out.
 #[unsafe(no_mangle)]
 pub extern "C" fn hlr_next_forwardings(
     alloc: Global,

@@ -63,8 +63,8 @@ pub record IsLaterDesk (before after : DeskState) : Type 0 where
   pub board : after.board ≡ before.board
   pub seen : (w : ℕ) → slice_index before.view.seen w ≤ slice_index after.view.seen w
 
--- what an event leaves of this: a part that was divided has a new one behind it, which is home, a part that was
--- dissolved is gone, and nothing else changes
+-- which parts are home after an event: a part that was divided has a new one behind it, which is home, a part that
+-- was dissolved is gone, and nothing else changes
 abbrev pub AreHomesAfter : Event → Reply → OwnersState → OwnersState → Type 0
 AreHomesAfter (Divide part at) (Divided new lo hi) before after = IsWithNew part before after
 AreHomesAfter (Dissolve part) (Dissolved front lo hi) before after = IsWithout part before after

@@ -21,7 +21,7 @@ IsRightNow event h answer =
     (owners : List RegionOwner) → AreLater h.owners owners
     → IsStep event (store_in (with_owners h owners)) answer (store_in (with_owners h owners))
 
--- the job is the action that the event asks for, or the posting
+-- the job is the action that the event asks for, whichever part has it, or the posting to this part
 abbrev pub IsAskedJob : Event → OwnersState → ℕ → Job → Type 0
 IsAskedJob event h p (job.Act act) = action_for event (book_in h.owners) ≡ Ok act
 IsAskedJob event h p (job.Post limit) = event ≡ Post p limit
@@ -32,7 +32,7 @@ IsRightSent event h p job =
     (owners after : List RegionOwner) (answer : Reply) → AreLater h.owners owners → IsDoneAt h.regions p job owners answer after
     → IsStep event (store_in (with_owners h owners)) answer (store_in (with_owners h after))
 
--- the event gives a number, moves regions, or makes or dissolves a part
+-- the register itself does the event: it gives a number, moves regions, or makes or dissolves a part
 abbrev pub is_here : Event → Bool
 is_here (AddSubscriber row) = true
 is_here (SetNumber s_id sub_nbr) = true

@@ -152,14 +152,14 @@ abbrev pub taken_reply : ℕ → ℕ → Result Side Refusal → Reply
 taken_reply n q (Ok side) = reply.Taken n q
 taken_reply n q (Err why) = reply.Refused why
 
--- a right step of a give, which changes the regions alone
+-- a right step of a give, which changes nothing but the regions
 abbrev pub IsGiveStep : ℕ → Side → ℕ → Store → Reply → Store → Type 0
 IsGiveStep part side at before answer after =
     (done : Result (ℕ × ℕ × ℕ) Refusal)
     × MayAnswer (give_answer part side at before.regions) done × (answer ≡ given_reply done)
     × (after ≡ record before { regions = after_give part side at done before.regions })
 
--- a right step of a take, which changes the regions alone
+-- a right step of a take, which changes nothing but the regions
 abbrev pub IsTakeStep : ℕ → ℕ → Store → Reply → Store → Type 0
 IsTakeStep piece part before answer after =
     (done : Result Side Refusal)

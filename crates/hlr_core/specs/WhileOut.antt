@@ -21,7 +21,7 @@ IsStepWhileOut event before answer after =
     (holdings : List HoldingState) → AreLater before.owners (with_outs before.owners holdings)
     → IsStep event (store_in (register_with before holdings)) answer (store_in (register_with after holdings))
 
--- a right recut, regardless of what jobs have done to them
+-- a right recut, regardless of what jobs have done to the lent holdings
 abbrev pub IsRecutWhileOut : List ℕ → OwnersState → Result ℕ Refusal → OwnersState → Type 0
 IsRecutWhileOut bounds before answer after =
     (holdings : List HoldingState) → AreLater before.owners (with_outs before.owners holdings)

@@ -1,5 +1,5 @@
-//! Rows of a table from a key on, in key order: as many as a caller's list has room for, so that all of them can be read
-//! by one call, or by one page after another.
+//! Rows of a table from a key on, in key order: as many as a caller's list has room for, so that all of them can be
+//! read by one call, or by one page after another.
 ghost use Rattle.std.specs.Prelude.{◌≡◌, map};
 ghost use Rattle.tatp_actions.specs.Listed.{AreFilled, rows_listed, subscribers_from, access_from, facilities_from, forwardings_from};
 ghost use Rattle.hlr_owners.specs.Owners.{AllHome, book_in};
@@ -20,8 +20,8 @@ impl Register {
     }
 
     /// Writes the first Subscriber rows with an s_id from one on into a list, by their s_ids: as many as there are, and
-    /// as the list has room for, and tells how many. Behind them the list stays as it was. Any number may be asked from,
-    /// so that a caller can go on from the last row's s_id plus one. It takes no memory.
+    /// as the list has room for, and tells how many. Behind them the list stays as it was. Any number may be asked
+    /// from, so that a caller can go on from the last row's s_id plus one. It takes no memory.
     pub fn next_subscribers(&self, s_id: u64, rows: &mut [Subscriber]) -> usize
         requires { AllHome self.now.owners }
         ensures { AreFilled (subscribers_from s_id (book_in self.now.owners)) rows.old result rows.new }
@@ -48,8 +48,8 @@ impl Register {
         self.write_rows::<Access, Access>(&from, rows)
     }
 
-    /// Writes the first Special_Facility rows from a facility on, by s_id and then sf_type, as `next_subscribers` writes
-    /// its rows. A caller goes on from the last row with its sf_type plus one.
+    /// Writes the first Special_Facility rows from a facility on, by s_id and then sf_type, as `next_subscribers`
+    /// writes its rows. A caller goes on from the last row with its sf_type plus one.
     pub fn next_facilities(&self, s_id: u64, sf_type: u64, rows: &mut [Facility]) -> usize
         requires { AllHome self.now.owners }
         ensures { AreFilled (facilities_from s_id sf_type (book_in self.now.owners)) rows.old result rows.new }

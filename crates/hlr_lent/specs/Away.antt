@@ -18,7 +18,7 @@ abbrev pub refusal_of : {A : Type 0} → Result A Refusal → Result (Unit {0}) 
 refusal_of (Ok done) = Ok tt
 refusal_of (Err why) = Err why
 
--- the refusal by the regions of an event that moves them, or that makes or dissolves a part
+-- whether the regions allow an event that moves them, or that makes or dissolves a part; if not, the refusal
 abbrev pub allowed : Event → List Region → Result (Unit {0}) Refusal
 allowed (Give part side at) regions = refusal_of (give_answer part side at regions)
 allowed (Take piece part) regions = refusal_of (take_answer piece part regions)

@@ -4,6 +4,7 @@ ghost use Rattle.std.specs.Prelude.{◌≡◌, ◌<◌, [], None, Some, IfOk, If
 ghost use Rattle.rtrb.specs.Ring.{IsPair, known_free, known_items, received, sent};
 ghost use Rattle.holding.specs.Held.{HoldingState};
 ghost use Rattle.hlr_lent.specs.Rings.{MayComeHome, MayFollow, lent_as};
+ghost use Rattle.hlr_lent.specs.Sent.{gone_home};
 
 use holding::Holding;
 use rtrb::{Consumer, Producer, Protocol, RingBuffer};
@@ -59,6 +60,7 @@ pub(crate) fn tell(part: &mut PartEnd, lender: &mut LenderEnd, holding: &Holding
 pub(crate) fn arrived(lender: &mut LenderEnd) -> Option<Box<Holding>>
     requires { (lent : HoldingState) × (lent_as (received lender.old) ≡ Some lent) }
     ensures come { IfSome result (λ holding. MayComeHome (received lender.old) holding.value) }
+    ensures received { IfSome result (λ holding. gone_home (received lender.new) ≡ Some holding.value) }
     ensures none { result ≡ None → received lender.new ≡ received lender.old }
 {
     match lender.pop() {

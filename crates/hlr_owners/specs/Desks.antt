@@ -54,7 +54,7 @@ pub record AreDesks (board : TableId) (spare : DeskState) (desks : List DeskStat
 abbrev pub IsLevel : List ℕ → ℕ → Type 0
 IsLevel words slot = (c : ℕ) → c < CELLS → slice_index words (plus_word slot c) ≡ slice_index words (minus_word slot c)
 
--- this holds for each slot
+-- the plus-words of all slots equal their minus-words
 abbrev pub AreLevel : List ℕ → Type 0
 AreLevel words = (slot : ℕ) → slot < SLOTS → IsLevel words slot
 

@@ -30,15 +30,15 @@ pub record IsOpened (region : Region) (width : ℕ) (holding : HoldingState) : T
   pub no_rows : holding.part.book ≡ empty_book
   pub rules : IsHolding holding
 
--- what becomes of a store where a piece is handed on: the regions alone move, to those after it; or, where memory was
--- wanted, they are as they were, or as the give alone leaves them
+-- what becomes of a store where a piece is handed on: only the regions move, to those after it; or, where memory was
+-- wanted, they are as they were, or as only the give leaves them
 abbrev pub IsHanded : Result (List Region) Refusal → List Region → Store → Result (Unit {0}) Refusal → Store → Type 0
 IsHanded whole half before (Ok done) after = (whole ≡ Ok after.regions) × (after ≡ record before { regions = after.regions })
 IsHanded whole half before (Err why) after =
     (why ≡ Memory) × (after ≡ record before { regions = after.regions }) × ((after.regions ≡ before.regions) ⊎ (after.regions ≡ half))
 
 -- what a move leaves: who is home, which holdings are lent, the desk of the slots that no part has, and the width; and
--- of the store the regions alone move, no matter what the lent holdings have become
+-- of the store only the regions move, no matter what the lent holdings have become
 pub record IsMovedAlone (before after : OwnersState) : Type 0 where
   pub homes : homes_in after.owners ≡ homes_in before.owners
   pub outs : outs_in after.owners ≡ outs_in before.owners

@@ -26,7 +26,7 @@ abbrev pub state_of : RegionOwner → OwnerState
 state_of (Part part_owner_state) = of_holding part_owner_state.holding
 state_of (Piece b) = of_piece b.value
 
--- the same of all owners
+-- the rows, deltas and views of all owners, in order
 abbrev pub states_in : List RegionOwner → List OwnerState
 states_in owners = map state_of owners
 
@@ -105,7 +105,7 @@ pub record AreOwners (h : OwnersState) : Type 0 where
   pub each : AllZip (IsRegionOwner h.width) h.regions h.owners
   pub zones : IsWidth h.width
 
--- a part is home, if there is such a part
+-- a part is home; this is also true of a number that no part has
 abbrev pub IsPartHome : ℕ → OwnersState → Type 0
 IsPartHome part h = slice_index_or (homes_in h.owners) part true ≡ true
 

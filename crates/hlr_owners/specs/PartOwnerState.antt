@@ -8,7 +8,7 @@ pub record PartOwnerState : Type 0 where
   pub holding : HoldingState
   pub home : Bool
 
--- what a place for a holding has, where this one was lent last
+-- the state of a part: the holding that its place has, or, if the place is empty, the holding that was lent from it
 abbrev pub part_owner_state : Option (Box HoldingState Global) → HoldingState → PartOwnerState
 part_owner_state (Some b) lent = record { holding = b.value; home = true }
 part_owner_state None lent = record { holding = lent; home = false }

@@ -8,7 +8,7 @@ pub use Rattle.view_delta.specs.Pending.{is_zero}
 use Rattle.holding.specs.Post.{due}
 use Rattle.hlr_owners.specs.Words.{net}
 
--- the least of a part's slots
+-- the least of a part's slots, of which each part has exactly one; of none, a number that is no slot
 abbrev pub least_slot : List ℕ → ℕ
 least_slot [] = SLOTS
 least_slot (slot ∷ slots) = min slot (least_slot slots)

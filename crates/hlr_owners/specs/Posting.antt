@@ -6,7 +6,7 @@ use Rattle.tatp_actions.specs.Cell.{cell}
 use Rattle.hlr_owners.specs.Post.{post}
 use Rattle.hlr_owners.specs.Store.{Store, rows_of}
 
--- a right posting to a part with these slots, if there is such a part: it raises words alone
+-- a right posting to a part with these slots, if there is such a part: it changes nothing but words
 abbrev pub IsPosting : Option (List ℕ) → ℕ → ℕ → Store → Result ℕ Refusal → Store → Type 0
 IsPosting None part limit before answer after = (answer ≡ Err refusal.NoPart) × (after ≡ before)
 IsPosting (Some slots) part limit before answer after =

@@ -40,7 +40,7 @@ opening_from parts width words = record (opening parts width) { words = words; s
 abbrev pub published : Store → ℕ → ℤ
 published store c = net store.words all_slots c
 
--- what is unposted of a cell: its count over the rows now, less what is published
+-- the count of a cell over the rows now, less what is published of it
 abbrev pub unpublished : Store → ℕ → ℤ
 unpublished store c = pos (cell store.width c store.book) -ℤ published store c
 
@@ -61,6 +61,6 @@ slots_of store part = slice_get store.slots part
 abbrev pub parts_in : Store → ℕ
 parts_in store = length (parts_of store.regions)
 
--- a register can be opened with so many parts and this width of a zone
+-- a register can be opened with this many parts and this width of a zone
 abbrev pub HasOpening : ℕ → ℕ → Type 0
 HasOpening parts width = can_open parts width ≡ true

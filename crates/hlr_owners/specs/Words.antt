@@ -1,4 +1,4 @@
--- The words of the board as lists of slots see them. Where a slot has its words, the board says.
+-- The words of the board as lists of slots see them. In which words a slot is, view_board defines.
 use Rattle.std.specs.Prelude.{ℕ, List, [], ◌∷◌, replicate, ℤ, pos, ◌+ℤ◌}
 use Rattle.std.specs.List.{range_with_len}
 use Rattle.view_board.specs.Words.{slot_net}

@@ -98,7 +98,7 @@ with_part_change Same blank each = each
 with_part_change (New part) blank each = insert each part blank
 with_part_change (Gone part) blank each = remove each part
 
--- among so many parts there is a place for it
+-- among this many parts there is a place for it
 abbrev pub IsPlace : PartChange → ℕ → Type 0
 IsPlace Same parts = ⊤
 IsPlace (New part) parts = (part ≤ parts) × (parts < MOST_PARTS)

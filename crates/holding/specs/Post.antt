@@ -18,7 +18,7 @@ all_cells = range_with_len 0 CELLS
 abbrev pub gap : (ℕ → ℕ) → View → ℕ → ℤ
 gap count view c = pos (count c) -ℤ net_of view c
 
--- the cells that are posted: the first `limit` of those with a gap, ascending
+-- the cells to post: the first `limit` of those with a gap, in ascending order
 abbrev pub due : (ℕ → ℤ) → ℕ → List ℕ
 due gaps limit = take limit (filter (λ c. not (is_zero (gaps c))) all_cells)
 
@@ -30,6 +30,6 @@ post_cells gaps slot (c ∷ cells) done view =
     if is_worn view.numbers slot c (gaps c) then (Err refusal.Worn, view)
     else post_cells gaps slot cells (done + 1) (posted view slot c (gaps c))
 
--- posting in a slot up to so many cells
+-- posting in a slot up to this many cells
 abbrev pub post : (ℕ → ℕ) → ℕ → ℕ → View → Result ℕ Refusal × View
 post count slot limit view = post_cells (gap count view) slot (due (gap count view) limit) 0 view

@@ -30,8 +30,8 @@ most_of_meld a b = 16 * (abs_diff a b + 1)
 abbrev pub fewest_of_meld : ℕ → ℕ → ℕ
 fewest_of_meld a b = 2 * abs_diff a b + 4
 
--- the steps of joining nodes whose heights differ by so much, where so many blank nodes were used, and so many of those
--- for a new root: four where they meet, two a level between, five for each level from which two nodes came back, and
+-- the steps of joining nodes whose heights differ by this much, where this many blank nodes were used, and this many
+-- of those for a new root: four where they meet, two a level between, five for each level from which two nodes came back, and
 -- one for a new root
 abbrev pub join_steps : ℕ → ℕ → ℕ → ℕ
 join_steps apart used roots = 4 + 2 * apart + 5 * (used - roots) + roots

@@ -18,12 +18,12 @@ IsPacked n [] = n ≡ 0
 IsPacked n (None ∷ xs) = (n ≡ 0) × IsPacked 0 xs
 IsPacked n (Some x ∷ xs) = (0 < n) × IsPacked (n - 1) xs
 
--- behind the first n keys stands the greatest number alone
+-- each key behind the first n is the greatest number
 abbrev pub IsPadded : ℕ → List ℕ → Type 0
 IsPadded n [] = ⊤
 IsPadded n (k ∷ keys) = (n ≡ 0 → k ≡ no_key) × IsPadded (n - 1) keys
 
--- the keys of so many items, at most 32, and behind those keys the greatest number alone
+-- one key for each item, at most 32, and behind those keys only the greatest number
 pub record AreKeyed {X : Type 0} (keys : List ℕ) (items : List X) : Type 0 where
   pub fits : length items ≤ 32
   pub padded : IsPadded (length items) keys

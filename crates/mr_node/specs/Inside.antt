@@ -10,7 +10,8 @@ abbrev pub ArePairChildren : {V : Type 0} → ℕ → Bool → List (NodeChild V
 ArePairChildren h true children low high = IsChild h low × (low.1.node.value.rows ≡ rows_of children) × (low.1.node.value.width ≡ widths_of children)
 ArePairChildren h false children low high = IsChild h low × IsChild h high × (low.1.node.value.rows ++ high.1.node.value.rows ≡ rows_of children) × (low.1.node.value.width + high.1.node.value.width ≡ widths_of children)
 
--- an inner node with two neighbours from a place on that share anew: the first has so many, and the second may be empty
+-- an inner node with two neighbours from a place on that share anew: the first has this many, and the second may be
+-- empty
 pub record IsPairAt {V : Type 0} (place many : ℕ) (joined : Bool) (old new : NodeInner V) : Type 0 where
   pub low : NodeChild V
   pub high : NodeChild V
@@ -40,7 +41,7 @@ pub record IsLooseAt {V : Type 0} (place : ℕ) (b : NodeInner V) : Type 0 where
   pub inner : IsInnerOf 15 b
   pub beside : AreChildrenBeside place (place + 1) b
 
--- an inner node that is whole again: the same rows, in so many children fewer at most
+-- an inner node that is whole again: the same rows, in this many children fewer at most
 pub record IsWholeAgain {V : Type 0} (fewer : ℕ) (old new : NodeInner V) : Type 0 where
   pub height : new.height ≡ old.height
   pub len : old.len ≤ new.len + fewer

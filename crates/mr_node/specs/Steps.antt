@@ -1,11 +1,11 @@
 -- What a meter shows.
 use Rattle.std.specs.Prelude.{ℕ, ◌+◌, ◌-◌, ◌*◌, ◌^◌, ◌≤◌, min}
 
--- the count of steps after so many more: it stops at the greatest number of 64 bits
+-- the count of steps after this many more: it stops at the greatest number of 64 bits
 abbrev pub after_steps : ℕ → ℕ → ℕ
 after_steps steps before = min (before + steps) (2 ^ 64 - 1)
 
--- room made on so many levels: a full child is halved, which takes three steps and a blank node, or gives to its
+-- room made on this many levels: a full child is halved, which takes three steps and a blank node, or gives to its
 -- neighbour in four
 pub record IsRoomMade (levels used before after : ℕ) : Type 0 where
   pub given : ℕ

@@ -1,4 +1,4 @@
--- The regions at opening: parts alone, with the zones shared out among them.
+-- The regions at opening: parts and no loose piece, with the zones shared out among them.
 use Rattle.std.specs.Prelude.{ℕ, ◌+◌, ◌-◌, ◌*◌, ◌/◌, ◌&&◌, Bool, List, map, if◌then◌else◌, Result, Ok, Err}
 use Rattle.std.specs.List.{range_with_len}
 use Rattle.tatp_rows.specs.Rows.{is_between}

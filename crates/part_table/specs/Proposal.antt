@@ -7,7 +7,7 @@ use Rattle.part_table.specs.Least.{least}
 abbrev pub weight_below : List ℕ → ℕ → ℕ
 weight_below weights zone = sum (take zone weights)
 
--- at least so many of the parts' equal shares of all weight lie below a zone
+-- at least this many of the parts' equal shares of all weight lie below a zone
 abbrev pub has_shares : List ℕ → ℕ → ℕ → ℕ → Bool
 has_shares weights parts shares zone = nat_le (shares * sum weights) (parts * weight_below weights zone)
 

@@ -22,7 +22,7 @@ is_part p region = is_part_place p region.place
 abbrev pub is_piece : ℕ → Region → Bool
 is_piece n region = is_piece_place n region.place
 
--- the region of any part (no public clause cites these two)
+-- a place is that of any part (no public clause cites this definition or the next one)
 abbrev pub is_of_part_place : Place → Bool
 is_of_part_place (Part number) = true
 is_of_part_place (Piece number) = false

@@ -1,5 +1,5 @@
-//! Pages of a register's rows, where there are more than a node and a level of nodes has, and at the borders of parts and
-//! of loose pieces.
+//! Pages of a register's rows, where there are more than a node and a level of nodes has, and at the borders of parts
+//! and of loose pieces.
 use crate::tests::{ask, opened};
 use hlr_core::{Event, Register, Reply, Side};
 use std::alloc::Global;
@@ -12,8 +12,8 @@ use tests_common::{facility_row, number, row};
 /// How many subscribers there are: more than a tree of one level over its leaves can have.
 const COUNT: u64 = 1_100;
 
-/// Adds the subscribers 1 to `COUNT`, each with an active facility of type 1 to 4 in turn that is forwarded from 8 o'clock
-/// on: how many of the events were done.
+/// Adds the subscribers 1 to `COUNT`, each with an active facility of type 1 to 4 in turn that is forwarded from 8
+/// o'clock on: how many of the events were done.
 fn fill(register: &mut Register) -> u64 {
     let mut done = 0u64;
     for turn in 0..COUNT {

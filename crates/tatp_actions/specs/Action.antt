@@ -102,7 +102,7 @@ abbrev pub add_subscriber : Book → SubscriberRow → Option SubscriberRow → 
 add_subscriber book row None = (reply.Done, more_subscribers book row)
 add_subscriber book row (Some other) = (reply.Refused refusal.Exists, book)
 
--- a new access, and a new facility, of the subscriber that was found, unless a row with its key was found
+-- a new access of the subscriber that was found, unless a row with its key was found
 abbrev pub add_access : Book → AccessInfoRow → Option SubscriberRow → Option AccessInfoRow → RowReply × Book
 add_access book row None there = (reply.Refused refusal.NoSubscriber, book)
 add_access book row (Some subscriber) None = (reply.Done, more_access book row)

@@ -37,7 +37,7 @@ has_active facility = option_map_or (λ row. row.is_active == 1) facility false
 abbrev pub forwarding_at : Book → ℕ → ℕ → ℕ → Option CallForwardingRow
 forwarding_at book s_id sf_type start_time = row_at forwarding_key (key_of s_id sf_type start_time) book.forwardings
 
--- the book with another row for a subscriber, and for a facility
+-- the book with a row in the place of the subscriber with its key
 abbrev pub put_subscriber : Book → ℕ → SubscriberRow → Book
 put_subscriber book s_id row = record book { subscribers = with_row_at subscriber_key (key_of s_id 0 0) row book.subscribers }
 
@@ -45,7 +45,7 @@ put_subscriber book s_id row = record book { subscribers = with_row_at subscribe
 abbrev pub put_facility : Book → ℕ → ℕ → SpecialFacilityRow → Book
 put_facility book s_id sf_type row = record book { facilities = with_row_at facility_key (key_of s_id sf_type 0) row book.facilities }
 
--- the book with one more row, table by table
+-- the book with one more subscriber
 abbrev pub more_subscribers : Book → SubscriberRow → Book
 more_subscribers book row = record book { subscribers = with_row subscriber_key row book.subscribers }
 
@@ -66,7 +66,7 @@ abbrev pub without_forwarding : Book → ℕ → ℕ → ℕ → Book
 without_forwarding book s_id sf_type start_time =
     record book { forwardings = without_row forwarding_key (key_of s_id sf_type start_time) book.forwardings }
 
--- the rules of a book, but for the rule that no number comes twice, which the register alone can keep
+-- the rules of a book, but for the rule that no number comes twice, which only the register can keep
 pub record IsBook (book : Book) : Type 0 where
   pub subscribers_ordered : IsOrderedBy subscriber_key book.subscribers
   pub access_ordered : IsOrderedBy access_key book.access

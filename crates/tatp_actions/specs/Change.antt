@@ -25,7 +25,7 @@ is_zero (negsuc n) = false
 abbrev pub note_of : ℕ → ℤ → List (ℕ × ℤ)
 note_of cell amount = if is_zero amount then [] else (cell, amount) ∷ []
 
--- the notes of so many hours from one on, each by its amount
+-- the notes of this many hours from one on, each by its amount
 unfoldable pub hour_notes : (ℕ → ℤ) → ℕ → ℕ → List (ℕ × ℤ)
 hour_notes amount zero hour = []
 hour_notes amount (suc n) hour = note_of hour (amount hour) ++ hour_notes amount n (hour + 1)

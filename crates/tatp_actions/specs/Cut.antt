@@ -9,11 +9,11 @@ use Rattle.tatp_actions.specs.Heights.{Heights}
 use Rattle.tatp_actions.specs.Joined.{join_books, cut_low, cut_high}
 use Rattle.tatp_actions.specs.Part.{PartState}
 
--- the part with its subscribers below n alone
+-- the part with only its subscribers below n
 abbrev pub low_part : ℕ → PartState → PartState
 low_part n part = record part { book = cut_low n part.book; hi = n }
 
--- the part with its subscribers from n on alone
+-- the part with only its subscribers from n on
 abbrev pub high_part : ℕ → PartState → PartState
 high_part n part = record part { book = cut_high n part.book; lo = n }
 

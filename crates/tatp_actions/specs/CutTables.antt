@@ -81,18 +81,18 @@ heights_of trees = record {
   forwardings = trees.forwardings.height;
 }
 
--- so many blank nodes are enough for the slice of a tree of this height
+-- this number of blank nodes is enough for the slice of a tree of this height
 pub record IsForSlice (height stock : ℕ) : Type 0 where
   pub low : height < 16
   pub enough : blanks_for_slice height ≤ stock
 
--- and so many for the meld of trees of these heights
+-- this number of blank nodes is enough for the meld of trees of these heights
 pub record IsForMeld (a b stock : ℕ) : Type 0 where
   pub low : a < 16
   pub other_low : b < 16
   pub enough : blanks_for_meld a b ≤ stock
 
--- the same of the four trees
+-- the stocks are large enough for slices of trees of these heights
 pub record AreForSlice (h : Heights) (stocks : Stocks) : Type 0 where
   pub subscribers : IsForSlice h.subscribers stocks.subscribers
   pub access : IsForSlice h.access stocks.access

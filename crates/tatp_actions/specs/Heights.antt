@@ -8,6 +8,6 @@ pub record Heights : Type 0 where
   pub facilities : ℕ
   pub forwardings : ℕ
 
--- those of empty trees
+-- the heights of four empty trees
 abbrev pub zero_heights : Heights
 zero_heights = record { subscribers = 0; access = 0; facilities = 0; forwardings = 0 }

@@ -31,7 +31,7 @@ number_in_time hour start_time end_time (Some row) = if nat_le hour start_time &
 abbrev pub asked_once : PartState → PartState
 asked_once part = record part { asked = once_more part.asked }
 
--- the part is as before, but for at most so many more questions
+-- the part is as before, but for at most this many more questions
 abbrev pub IsOnlyAsked : ℕ → PartState → PartState → Type 0
 IsOnlyAsked most before after = (after ≡ record before { asked = after.asked }) × (after.asked ≤ before.asked + most)
 

@@ -33,7 +33,7 @@ is_active_at key facilities = option_map_or (λ facility. facility.is_active == 
 abbrev pub is_active_in : List (ℕ × SpecialFacilityRow) → CallForwardingRow → Bool
 is_active_in facilities row = is_active_at (key_of row.s_id row.sf_type 0) facilities
 
--- the counts with one more in each of so many hours, from one on
+-- the counts with one more in each of this many hours, from one on
 abbrev pub one_more_from : ℕ → ℕ → List ℕ → List ℕ
 one_more_from hour zero counts = counts
 one_more_from hour (suc n) counts = one_more_from (hour + 1) n (one_more_in hour counts)

@@ -6,7 +6,7 @@ use Rattle.tatp_rows.specs.Rows.{SubscriberRow, AccessInfoRow, SpecialFacilityRo
 abbrev pub key_of : ℕ → ℕ → ℕ → ℕ
 key_of s_id kind start_time = s_id * 65536 + kind * 256 + start_time
 
--- the key of a row, table by table
+-- the key of a Subscriber row
 abbrev pub subscriber_key : SubscriberRow → ℕ
 subscriber_key row = key_of row.s_id 0 0
 

@@ -8,7 +8,7 @@ unfoldable pub packed : ℕ → List ℕ → ℕ
 packed base [] = 0
 packed base (digit ∷ digits) = digit + base * packed base digits
 
--- so many digits to a base of a number
+-- this many digits to a base of a number
 unfoldable pub unpacked : ℕ → ℕ → ℕ → List ℕ
 unpacked base zero n = []
 unpacked base (suc size) n = n % base ∷ unpacked base size (n / base)

@@ -15,8 +15,8 @@ pub record DeskState : Type 0 where
 abbrev pub with_view : DeskState → View → DeskState
 with_view desk v = record desk { view = v }
 
--- the flags and numbers that a desk stores are those of its view, and no number passes the limit. At words of others
--- the numbers are left from before
+-- the flags and numbers that a desk stores are those of its view, and no number passes the limit. The number that it
+-- stores for a word of another desk means nothing
 pub record Agrees (me : Me (Unit {0}) View) (flags : List Bool) (stored : List ℕ) : Type 0 where
   pub owned : me.0.owned ≡ flags
   pub numbers : me.0.numbers ≡ stored

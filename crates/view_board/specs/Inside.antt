@@ -3,7 +3,7 @@ use Rattle.std.specs.Prelude.{ℕ, ◌*◌, ◌^◌, ◌<◌, List, slice_index,
 use Rattle.view_board.specs.declared.words.TheConstants.{CELLS}
 use Rattle.view_board.specs.Words.{plus_word, minus_word}
 
--- sums over so many slots fit: none is past 2^64 for each slot, either way
+-- sums over this many slots fit: none is past 2^64 for each slot, either way
 pub record AreWithin (slots : ℕ) (sums : List ℤ) : Type 0 where
   pub low : (c : ℕ) → c < CELLS → neg_ℤ (pos (slots * 2 ^ 64)) ≤ℤ slice_index_or sums c (pos 0)
   pub high : (c : ℕ) → c < CELLS → slice_index_or sums c (pos 0) ≤ℤ pos (slots * 2 ^ 64)

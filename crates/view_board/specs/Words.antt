@@ -4,7 +4,7 @@ use Rattle.std.specs.Int.RustNames.{unsigned_abs}
 use Rattle.std.specs.List.{range_with_len}
 use Rattle.view_board.specs.declared.words.TheConstants.{SLOTS, CELLS, SLOT_WORDS, WORDS, LIMIT}
 
--- where a slot has the plus-word and the minus-word of a cell
+-- the place of a slot's plus-word of a cell
 abbrev pub plus_word : ℕ → ℕ → ℕ
 plus_word slot cell = slot * SLOT_WORDS + cell
 

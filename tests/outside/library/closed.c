@@ -74,11 +74,11 @@ static void divided(uint64_t parts) {
 /* All parts are out, and go home behind the register. */
 static void all_lent(uint64_t parts) {
     hlr handle = filled(parts);
-    hlr_part owners[MOST_PARTS] = {HLR_CLOSED};
+    hlr_part lent[MOST_PARTS] = {HLR_CLOSED};
     for (uint64_t part = 0; part < parts; part++)
-        expect(hlr_lend(&handle, part, &owners[part]) == HLR_DONE, parts, "a part is lent");
+        expect(hlr_lend(&handle, part, &lent[part]) == HLR_DONE, parts, "a part is lent");
     close_register(&handle, parts);
-    for (uint64_t part = 0; part < parts; part++) expect(hlr_home(&owners[part]) == HLR_DONE, parts, "a part goes home");
+    for (uint64_t part = 0; part < parts; part++) expect(hlr_home(&lent[part]) == HLR_DONE, parts, "a part goes home");
 }
 
 int main(void) {

@@ -1,6 +1,8 @@
 /*
- * blocks.c: blocks of rows without a server: a register goes out as blocks and comes back with the same rows and counts;
- * damaged blocks are refused or add rows in range, with right counts. Prints what went wrong, and nothing else.
+ * blocks.c: blocks of rows without a server: a register goes out as blocks and comes back with the same rows and counts,
+ * with any number of threads; damaged blocks are refused or add rows in range, with right counts; so are blocks out of
+ * order; and a load that is refused memory gives everything back. Prints what went wrong, and nothing else. It is linked
+ * with --wrap=malloc.
  *
  *     blocks [TURNS]
  */
@@ -79,6 +81,18 @@ static size_t copied(hlr *from, hlr *to) {
     return sum;
 }
 
+/* How many allocations are still made before one is refused, or a negative number if none is. */
+static long left = -1;
+
+void *__real_malloc(size_t bytes);
+void *__wrap_malloc(size_t bytes);
+
+void *__wrap_malloc(size_t bytes) {
+    long before = __atomic_load_n(&left, __ATOMIC_RELAXED);
+    if (before >= 0 && __atomic_fetch_sub(&left, 1, __ATOMIC_RELAXED) == 0) return NULL;
+    return __real_malloc(bytes);
+}
+
 /* Both registers have the same rows, as blocks. */
 static int same_rows(hlr *one, hlr *two) {
     struct walk first, second;
@@ -155,8 +169,105 @@ static void damaged(long turns) {
     hlr_close(&one);
 }
 
+/* The blocks of a register, in memory of their own. */
+struct blocks {
+    size_t count, lengths[256];
+    uint8_t *block[256];
+};
+
+static void taken_out(hlr *handle, struct blocks *blocks) {
+    struct walk walk;
+    uint8_t *block = malloc(BLOCK_BYTES);
+    blocks->count = 0;
+    walk_begin(&walk, handle, 0, PAGE_ROWS);
+    for (size_t length; (length = block_of_rows(&walk, block)) > 0; blocks->count++) {
+        expect(blocks->count < 256, "there is room for all blocks");
+        blocks->lengths[blocks->count] = length;
+        blocks->block[blocks->count] = memcpy(malloc(length), block, length);
+    }
+    free(block);
+}
+
+/* Loads the blocks, of which the one at `swapped` and the next one come in the other order. */
+static uint8_t loaded(const struct blocks *blocks, hlr *to, int threads, size_t swapped) {
+    struct loading loading;
+    uint8_t code = HLR_DONE;
+    loading_begin(&loading, to, threads, NULL);
+    for (size_t place = 0; place < blocks->count && code == HLR_DONE; place++) {
+        size_t at = place == swapped ? place + 1 : place == swapped + 1 ? place - 1 : place;
+        code = loading_block(&loading, blocks->block[at], blocks->lengths[at]);
+    }
+    uint8_t ended = loading_end(&loading);
+    expect(code == HLR_DONE || ended == code, "a refused block stays refused at the end");
+    return ended;
+}
+
+/* Whether a register has one part and no loose piece. */
+static int is_one_part(hlr *handle) {
+    hlr_region_list regions = {0};
+    return hlr_regions(handle, &regions) == HLR_DONE && regions.count == 1;
+}
+
+static void threads_load(hlr *one, const struct blocks *blocks, const uint64_t counts[HLR_CELLS]) {
+    for (int threads = 0; threads <= LOADERS; threads++) {
+        hlr two = HLR_CLOSED;
+        hlr_open(1, 100, &two);
+        expect(loaded(blocks, &two, threads, 1000) == HLR_DONE, "threads load all blocks");
+        expect(same_rows(one, &two), "threads load all rows");
+        expect(same_counts(&two, counts), "threads count all rows");
+        expect(is_one_part(&two), "one part is left");
+        hlr_close(&two);
+    }
+}
+
+/* Blocks in another order are refused, or add the same rows, and the counts are right in both cases. */
+static void out_of_order(hlr *one, const struct blocks *blocks) {
+    size_t refused = 0;
+    for (size_t swapped = 0; swapped + 1 < blocks->count; swapped += 3) {
+        hlr two = HLR_CLOSED;
+        hlr_open(1, 100, &two);
+        uint8_t code = loaded(blocks, &two, 2, swapped);
+        refused += code == HLR_FIELD;
+        expect(code == HLR_FIELD || (code == HLR_DONE && same_rows(one, &two)), "blocks out of order are refused, or add the same rows");
+        expect(same_counts(&two, NULL), "counts of blocks out of order are those of the rows");
+        hlr_close(&two);
+    }
+    expect(blocks->count <= CHUNK_BLOCKS || refused > 0, "some blocks out of order are refused");
+}
+
+/* Refuses each allocation of a load in turn. What was loaded until then is given back, which a sanitizer sees. */
+static void without_memory(const struct blocks *blocks) {
+    uint8_t code = HLR_MEMORY;
+    for (long made = 0; code == HLR_MEMORY; made += 1 + made / 8) {
+        hlr two = HLR_CLOSED;
+        hlr_open(1, 100, &two);
+        __atomic_store_n(&left, made, __ATOMIC_RELAXED);
+        code = loaded(blocks, &two, 3, 1000);
+        __atomic_store_n(&left, -1, __ATOMIC_RELAXED);
+        expect(code == HLR_MEMORY || code == HLR_DONE, "a load is refused for memory alone");
+        expect(same_counts(&two, NULL), "counts of a refused load are those of its rows");
+        hlr_close(&two);
+    }
+}
+
+static void threads(void) {
+    static struct blocks blocks;
+    hlr one = HLR_CLOSED;
+    uint64_t counts[HLR_CELLS] = {0};
+    hlr_open(1, 100, &one);
+    for (uint64_t place = 0; place < SUBSCRIBERS / 2; place++) add(&one, 1 + place * 7, place);
+    hlr_scan(&one, counts);
+    taken_out(&one, &blocks);
+    threads_load(&one, &blocks, counts);
+    out_of_order(&one, &blocks);
+    without_memory(&blocks);
+    for (size_t place = 0; place < blocks.count; place++) free(blocks.block[place]);
+    hlr_close(&one);
+}
+
 int main(int argc, char **argv) {
     whole();
+    threads();
     damaged(argc > 1 ? atol(argv[1]) : 2000);
     return wrong > 0;
 }

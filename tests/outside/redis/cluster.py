@@ -3,14 +3,13 @@
     cluster.py MODULE
 """
 import random
-import subprocess
 import sys
 import threading
 import time
 
 from checks import check, ended, same
 from resp import Connection, Error, code
-from servers import PATIENCE, Server, wait_for
+from servers import PATIENCE, Server, command_line, wait_for
 
 REGISTERS = 12
 SUBSCRIBERS = 500
@@ -118,14 +117,6 @@ class Worker(threading.Thread):
         was = self.forwardings.pop(place, None)
         self.expect("GND", numbers, [was] if was else [])
         self.expect("DCF", code(self.client("HLR.DCF", key, place[1], 1, 8)), "OK" if was else "NOFORWARDING")
-
-
-def command_line(*words):
-    """redis-cli --cluster: its output, where it ended well."""
-    done = subprocess.run(["redis-cli", "--cluster", *words], stdout=subprocess.PIPE, stderr=subprocess.STDOUT, text=True, check=False,
-                          stdin=subprocess.DEVNULL, timeout=PATIENCE * 2)
-    check(f"redis-cli --cluster {words[0]}", done.returncode == 0, done.stdout[-600:])
-    return done.stdout
 
 
 def fill(client):

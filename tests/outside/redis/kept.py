@@ -125,6 +125,47 @@ def by_keys(module):
     server.kill()
 
 
+def many_records(subscribers):
+    """Records of so many subscribers, each with a row of each table."""
+    for s_id in range(1, subscribers + 1):
+        yield f"sub,{s_id},{s_id:015},{s_id & 1}{'01' * 4}1,{s_id % 2**40:010x},{s_id:020x},{s_id},{s_id * 97 % 2**32 or 1}"
+        yield f"acc,{s_id},{s_id % 4 + 1},{s_id % 256},7,ABC,ABCDE"
+        yield f"fac,{s_id},{s_id % 4 + 1},{int(s_id % 7 > 0)},{s_id % 256},9,ABCDE"
+        yield f"icf,{s_id:015},{s_id % 4 + 1},{s_id % 3 * 8},{s_id % 3 * 8 + 1 + s_id % 8},{s_id:015}"
+
+
+def by_threads(module):
+    """A register with so many blocks that several threads load it, with any number of threads."""
+    records = list(many_records(60000))
+    server = Server("threads", module, module_words=("LOAD-THREADS", "4"))
+    one = server.connection()
+    one("HLR.CREATE", "hlr", "ZONE", 2000)
+    replies = one.many((("HLR.ADD", "hlr", "\n".join(records[begin:begin + 4000])) for begin in range(0, len(records), 4000)), 4)
+    same("rows that are added", sum(reply[1] for reply in replies), len(records))
+    before, counts = one("DEBUG", "DIGEST"), one("HLR.COUNTS", "hlr")
+    digest = one("DEBUG", "DIGEST-VALUE", "hlr")
+    same("COPY of many rows", one("COPY", "hlr", "copied"), 1)
+    same("digest of a copy of many rows", one("DEBUG", "DIGEST-VALUE", "copied"), digest)
+    one("UNLINK", "copied")
+    for threads in ("4", "1", "0"):
+        server.module_words = ["LOAD-THREADS", threads]
+        server.restart(save=True)
+        one = server.connection()
+        same(f"digest with {threads} threads", one("DEBUG", "DIGEST"), before)
+        same(f"counts with {threads} threads", one("HLR.COUNTS", "hlr"), counts)
+        same(f"counts of all rows with {threads} threads", one("HLR.RECOUNT", "hlr"), counts)
+        memory = info(one, "modules")["hlr_memory"]
+        check(f"all memory is the register's with {threads} threads", 0 <= one("MEMORY", "USAGE", "hlr") - memory < 1000, memory)
+    server.kill()
+    for words in (["LOAD-THREADS", "5"], ["LOAD-THREADS"], ["THREADS", "1"]):
+        server.module_words = words
+        try:
+            server.start()
+            check(f"{words} end the server", False)
+        except RuntimeError:
+            check(f"{words} are refused", "hlr.so takes LOAD-THREADS and a number from 0 to 4" in server.log(), server.log()[-500:])
+
+
 def kept_file(module):
     """version_0.rdb was saved by the first version of the type. It has the rows of the records in version_0.csv."""
     server = Server("version_0", module)
@@ -191,6 +232,7 @@ def main():
     by_aof(module, "yes")
     by_aof(module, "no")
     by_keys(module)
+    by_threads(module)
     kept_file(module)
     damaged(module)
     return ended()

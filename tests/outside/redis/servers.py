@@ -83,11 +83,12 @@ class Process:
 
 
 class Server(Process):
-    """A redis-server with the module. `options` are those of its command line. A module named sanitized.so was built with
-    sanitizers."""
+    """A redis-server with the module. `options` are those of its command line, and `module_words` those of the module. A
+    module named sanitized.so was built with sanitizers."""
 
-    def __init__(self, name, module, *options, environment=None, folder=ROOM, program=("redis-server",)):
+    def __init__(self, name, module, *options, module_words=(), environment=None, folder=ROOM, program=("redis-server",)):
         super().__init__(name, folder)
+        self.module_words = list(module_words)
         self.module, self.options, self.program = module, options, list(program)
         self.environment = {**(SANITIZED if os.path.basename(module) == "sanitized.so" else {}), **(environment or {})}
         for _ in range(5):
@@ -102,8 +103,8 @@ class Server(Process):
 
     def words(self):
         return [*self.program, "--bind", "127.0.0.1", "--port", str(self.port), "--dir", self.folder, "--logfile",
-                os.path.join(self.folder, "log"), "--loadmodule", os.path.abspath(self.module), "--enable-debug-command",
-                "yes", "--save", "", *self.options]
+                os.path.join(self.folder, "log"), "--loadmodule", os.path.abspath(self.module), *self.module_words,
+                "--enable-debug-command", "yes", "--save", "", *self.options]
 
     def start(self):
         """Starts it and waits until it has loaded its data."""
@@ -141,6 +142,15 @@ class Server(Process):
         """One for all rows of all keys."""
         with self.connection() as one:
             return one("DEBUG", "DIGEST")
+
+
+def command_line(*words):
+    """redis-cli --cluster: its output, where it ended well."""
+    done = subprocess.run(["redis-cli", "--cluster", *words], stdout=subprocess.PIPE, stderr=subprocess.STDOUT, text=True, check=False,
+                          stdin=subprocess.DEVNULL, timeout=PATIENCE * 2)
+    if done.returncode != 0:
+        raise RuntimeError(f"redis-cli --cluster {words[0]}: {done.stdout[-600:]}")
+    return done.stdout
 
 
 signal.signal(signal.SIGTERM, lambda *_: sys.exit(1))

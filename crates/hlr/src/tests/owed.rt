@@ -69,11 +69,12 @@ gsd,2
 number,2,3
 post,0,72
 post,1,72
-gsd,71
+gsd,000000000000000000000000000000000000000000000000000000000000000000000000000000000000000000000000000071
 ";
 
 /// Any allocation, and the start of any thread, may be refused here: then all records that were read are answered, but
-/// for the last one where its event was refused.
+/// for the last one where its event was refused. The last record is so long that reading it takes memory, while replies
+/// are owed.
 #[test]
 fn records_that_were_read_are_answered_each_refused(rt: HostRuntime) {
     let pending = Cell::new(false);

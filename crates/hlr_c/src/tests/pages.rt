@@ -1,4 +1,5 @@
-//! Rows by pages, at the borders of parts, of a loose piece, of nodes and of the caller's room, and behind the last key.
+//! Rows by pages, at the borders of parts, of a loose piece, of nodes and of the caller's room, and behind the last
+//! key.
 use super::lent::let_go;
 use super::{NO_ACCESS, NO_REGION, access, closed, facility, filled, opened, row};
 use crate::changes::{hlr_add_subscriber, hlr_insert_forwarding};
@@ -26,8 +27,8 @@ const OTHER_ROW: HlrSubscriber = HlrSubscriber {
     vlr_location: 0,
 };
 
-/// Subscribers 1 to 40: 16 of them in part 0, the last 8 in a loose piece, and the others in part 1. How many calls were
-/// done.
+/// Subscribers 1 to 40: 16 of them in part 0, the last 8 in a loose piece, and the others in part 1. How many calls
+/// were done.
 fn forty(alloc: Global, handle: &mut Hlr) -> u64 {
     let mut done = 0u64;
     for turn in 0..40u64 {
@@ -197,17 +198,17 @@ fn asked(alloc: Global, handle: &mut Hlr) -> [u8; 5] {
 fn parts_out(rt: HostRuntime) -> Result<(), Fail> {
     let alloc = rt.alloc();
     let mut handle = Hlr::closed();
-    let mut owner = HlrPart::closed();
+    let mut part = HlrPart::closed();
     let mut width = 0;
     let before = asked(alloc, &mut handle);
     let codes = [
         hlr_open(alloc, 2, 4, &mut handle),
-        hlr_lend(alloc, &mut handle, 1, &mut owner),
+        hlr_lend(alloc, &mut handle, 1, &mut part),
     ];
     let out = asked(alloc, &mut handle);
     let told = hlr_width(alloc, &mut handle, &mut width);
-    let home = hlr_home(alloc, &mut owner);
-    let_go(&rt, owner);
+    let home = hlr_home(alloc, &mut part);
+    let_go(&rt, part);
     closed(&rt, alloc, handle);
     assert_eq!(rt;
         (before, codes, out),

@@ -1,0 +1,5 @@
+pub mod AccessPlaces
+pub mod FacilityPlaces
+pub mod ForwardingPlaces
+pub mod Groups
+pub mod Places
