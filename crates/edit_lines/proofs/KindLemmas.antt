@@ -188,8 +188,8 @@ subscriber_again row holds =
     let high_below = packed-small 256 5 (drop 5 row.bytes) high in
     let ns : List ℕ = row.s_id ∷ row.sub_nbr ∷ packed 2 row.bits ∷ packed 16 row.hexes ∷ packed 256 (take 5 row.bytes) ∷ packed 256 (drop 5 row.bytes) ∷ row.msc_location ∷ row.vlr_location ∷ [] in
     let made : subscriber_from ns ≡ Ok (AddSubscriber row) =
-        four_tests _ _ _ _ _ _ (below_test (packed 2 row.bits) (2 ^ 10) bits_below) (below_test (packed 16 row.hexes) (2 ^ 40) (omega arith)) (below_test (packed 256 (take 5 row.bytes)) (2 ^ 40) (omega arith)) (below_test (packed 256 (drop 5 row.bytes)) (2 ^ 40) (omega arith))
-        ∙ rw (unpacked-packed 2 10 row.bits bits, unpacked-packed 16 10 row.hexes hexes, unpacked-packed 256 5 (take 5 row.bytes) low, unpacked-packed 256 5 (drop 5 row.bytes) high, take-append-drop 5 row.bytes) (held (AddSubscriber row) holds) in
+    four_tests _ _ _ _ _ _ (below_test (packed 2 row.bits) (2 ^ 10) bits_below) (below_test (packed 16 row.hexes) (2 ^ 40) (omega arith)) (below_test (packed 256 (take 5 row.bytes)) (2 ^ 40) (omega arith)) (below_test (packed 256 (drop 5 row.bytes)) (2 ^ 40) (omega arith))
+    ∙ rw (unpacked-packed 2 10 row.bits bits, unpacked-packed 16 10 row.hexes hexes, unpacked-packed 256 5 (take 5 row.bytes) low, unpacked-packed 256 5 (drop 5 row.bytes) high, take-append-drop 5 row.bytes) (held (AddSubscriber row) holds) in
     again (4 ∷ 8 ∷ 2 ∷ 6 ∷ 6 ∷ 6 ∷ 5 ∷ 5 ∷ []) ns _ subscriber_from _
     (eight (digits 4 row.s_id) (digits 8 row.sub_nbr) (digits 2 (packed 2 row.bits)) (digits 6 (packed 16 row.hexes)) (digits 6 (packed 256 (take 5 row.bytes))) (digits 6 (packed 256 (drop 5 row.bytes))) (digits 5 row.msc_location) (digits 5 row.vlr_location))
     (omega arith, (omega arith, (omega arith, (omega arith, (omega arith, (omega arith, (omega arith, (omega arith, tt))))))))
