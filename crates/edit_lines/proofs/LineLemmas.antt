@@ -1,5 +1,5 @@
 -- Lines have neither zeros nor line feeds in them.
-use Rattle.edit_lines.proofs.Common.{ℕ, zero, suc, ◌+◌, ◌/◌, ◌<◌, List, [], ◌∷◌, ◌++◌, take, drop, arith, AllByRecursion}
+use Rattle.edit_lines.proofs.Common.{ℕ, zero, suc, ◌/◌, ◌<◌, List, [], ◌∷◌, ◌++◌, take, drop, arith, AllByRecursion}
 use Rattle.tatp_rows.specs.Packed.{packed}
 use Rattle.edit_lines.specs.Lines.{digits, line_of}
 use Rattle.hlr_core.specs.declared.event.Event.{Event}

@@ -1,13 +1,13 @@
 -- What is read has the line that was read, kind by kind.
-use Rattle.edit_lines.proofs.Common.{◌≡◌, refl, sym, ap, subst, ◌∙◌, ℕ, suc, ◌+◌, ◌*◌, ◌^◌, ◌<◌, ◌≤◌, ◌⊎◌, inl, inr, Bool, true, false, cond, ◌==◌, ◌&&◌, nat_lt, List, [], ◌∷◌, ◌++◌, length, get_or, take, drop, arith, nat_tests, Result, Ok, Err, IfOk, both, SubscriberRow}
-use Rattle.tatp_rows.specs.Packed.{packed, unpacked, packed_back}
+use Rattle.edit_lines.proofs.Common.{◌≡◌, refl, sym, ap, subst, ◌∙◌, ℕ, suc, ◌^◌, ◌<◌, ◌⊎◌, inl, inr, Bool, true, false, cond, ◌==◌, ◌&&◌, nat_lt, List, [], ◌∷◌, ◌++◌, get_or, take, drop, arith, nat_tests, Result, Ok, Err, IfOk, SubscriberRow}
+use Rattle.tatp_rows.specs.Packed.{unpacked, packed_back}
 use Rattle.edit_lines.specs.Lines.{digits, line_of, has_line}
 use Rattle.edit_lines.specs.Reading.{number_of, numbers_of, if_has_line, fields_in, location_from, update_from, insert_from, delete_from, subscriber_from, access_from, facility_from, active_from, number_from, event_behind, event_of}
 use Rattle.edit_lines.specs.declared.error.LineError.{LineError}
 use Rattle.edit_lines.specs.declared.error.LineError.TheVariants as errors
 use Rattle.hlr_core.specs.declared.event.Event.{Event}
 use Rattle.hlr_core.specs.declared.event.Event.TheVariants.{UpdateSubscriber, UpdateLocation, InsertForwarding, DeleteForwarding, AddSubscriber, AddAccess, AddFacility, SetActive, SetNumber}
-use Rattle.edit_lines.proofs.FieldLemmas.{written, AllFit, AreFields, fields_forth}
+use Rattle.edit_lines.proofs.FieldLemmas.{written, AreFields, fields_forth}
 use Rattle.edit_lines.proofs.KindLemmas.{two, three, four, five, six, eight, line_again}
 use Rattle.edit_lines.proofs.PackLemmas.{low_of, high_of}
 
