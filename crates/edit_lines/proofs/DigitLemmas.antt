@@ -1,5 +1,5 @@
 -- Numbers as digits, and lists of numbers that are packed into one.
-use Rattle.edit_lines.proofs.Common.{◌≡◌, refl, sym, ap, subst, ◌∙◌, ℕ, zero, suc, ◌+◌, ◌-◌, ◌*◌, ◌/◌, ◌%◌, ◌^◌, ◌<◌, ◌≤◌, List, [], ◌∷◌, ◌++◌, length, get_or, take, drop, append_assoc, append-nil, length-drop, get_or-drop, drop_all, drop_more, arith, mul_comm, mul-le-mul_left, pow-suc, pow-zero, pow-le-pow_right, EachIndex}
+use Rattle.edit_lines.proofs.Common.{◌≡◌, refl, sym, ap, ◌∙◌, ℕ, zero, suc, ◌+◌, ◌-◌, ◌*◌, ◌/◌, ◌%◌, ◌^◌, ◌<◌, ◌≤◌, List, [], ◌∷◌, ◌++◌, length, get_or, drop, append_assoc, append-nil, length-drop, get_or-drop, drop_all, drop_more, arith, mul_comm, pow-suc, pow-zero, pow-le-pow_right, EachIndex}
 use Rattle.tatp_rows.specs.Packed.{packed}
 use Rattle.edit_lines.specs.Lines.{digits}
 use Rattle.edit_lines.specs.Reading.{number_of}

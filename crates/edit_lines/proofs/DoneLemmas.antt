@@ -1,9 +1,9 @@
 -- An event that is answered Done changes rows, and its plain numbers are in range.
-use Rattle.edit_lines.proofs.Common.{◌≡◌, refl, sym, ap, ◌∙◌, ℕ, Bool, true, false, List, [], ◌∷◌, ◌⊎◌, inl, inr, Ok, Err}
-use Rattle.std.specs.Prelude.{Option, Some, None, Result, option_map}
-use Rattle.tatp_rows.specs.Rows.{SubscriberRow, AccessInfoRow, is_between}
+use Rattle.edit_lines.proofs.Common.{◌≡◌, refl, ap, ℕ, Bool, true, false, List, [], ◌∷◌, inl, inr, Ok, Err}
+use Rattle.std.specs.Prelude.{Option, Some, None, Result}
+use Rattle.tatp_rows.specs.Rows.{SubscriberRow, AccessInfoRow}
 use Rattle.tatp_rows.specs.declared.refusal.Refusal.{Refusal}
-use Rattle.tatp_actions.specs.Action.{subscriber_data, new_destination, access_data, destinations, effect, is_in_range}
+use Rattle.tatp_actions.specs.Action.{subscriber_data, new_destination, access_data, destinations, is_in_range}
 use Rattle.tatp_actions.specs.Book.{Book, subscriber_at, access_at}
 use Rattle.tatp_actions.specs.declared.action.Action.{Action}
 use Rattle.tatp_actions.specs.declared.action.Action.TheVariants as action
@@ -14,7 +14,6 @@ use Rattle.part_table.specs.declared.region.Side.{Side}
 use Rattle.hlr_core.specs.Step.{IsStep, IsAskedStep, IsOwnedStep, IsWholeOutcome, action_for, checked, is_done, whole_effect, reply_of, posted_reply, given_reply, taken_reply, divided_reply, dissolved_reply}
 use Rattle.hlr_core.specs.declared.event.Event.{Event}
 use Rattle.hlr_core.specs.declared.event.Event.TheVariants.{SubscriberData, NewDestination, AccessData, UpdateSubscriber, UpdateLocation, InsertForwarding, DeleteForwarding, AddSubscriber, AddAccess, AddFacility, SetActive, SetNumber, Post, Give, Take, Divide, Dissolve}
-use Rattle.hlr_core.specs.declared.event.Reply.{Reply}
 use Rattle.hlr_core.specs.declared.event.Reply.TheVariants as reply
 use Rattle.edit_lines.specs.Lines.{is_change}
 

@@ -1,5 +1,5 @@
 -- Fields that are written one after another are read again, and digits that are read are those of the fields.
-use Rattle.edit_lines.proofs.Common.{◌≡◌, refl, sym, ap, ◌∙◌, ℕ, zero, suc, ◌+◌, ◌*◌, ◌/◌, ◌%◌, ◌^◌, ◌<◌, ◌≤◌, Bool, true, false, cond, ◌==◌, ◌&&◌, nat_le, List, [], ◌∷◌, ◌++◌, length, get_or, take, drop, sum, list_all, list_all-append, length-append, length-take, length-drop, nil_from_length, sum_by-cons, take_at, drop_at, take-append-drop, arith, nat_tests, pow-suc, pow-zero, Result, Ok, Err, both}
+use Rattle.edit_lines.proofs.Common.{◌≡◌, refl, sym, ap, ◌∙◌, ℕ, zero, suc, ◌+◌, ◌*◌, ◌/◌, ◌%◌, ◌^◌, ◌<◌, ◌≤◌, Bool, true, false, cond, ◌==◌, nat_le, List, [], ◌∷◌, ◌++◌, length, get_or, take, drop, sum, list_all, list_all-append, length-append, length-take, length-drop, nil_from_length, sum_by-cons, take_at, drop_at, take-append-drop, arith, nat_tests, pow-suc, pow-zero, Result, Ok, Err, both}
 use Rattle.edit_lines.specs.Lines.{digits}
 use Rattle.edit_lines.specs.Reading.{checked, number_of, numbers_of, if_digits, fields_in}
 use Rattle.edit_lines.specs.declared.error.LineError.{LineError}

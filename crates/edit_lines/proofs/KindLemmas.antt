@@ -1,14 +1,13 @@
 -- The way from an event to its line and back, kind by kind.
-use Rattle.edit_lines.proofs.Common.{◌≡◌, refl, sym, ap, subst, ◌∙◌, ℕ, ◌+◌, ◌*◌, ◌^◌, ◌<◌, ◌≤◌, ◌⊎◌, inl, inr, Bool, true, false, cond, ◌==◌, ◌&&◌, ◌||◌, nat_lt, List, [], ◌∷◌, ◌++◌, length, get_or, take, drop, append_assoc, append-nil, take-append-drop, arith, nat_tests, Result, Ok, Err, both, both_from, between_is, number_below, subscriber_ranges, is_between, is_number, are_between, LAST_SUBSCRIBER, SubscriberRow, AccessInfoRow, SpecialFacilityRow}
-use Rattle.tatp_rows.specs.Packed.{packed, unpacked, packed_back}
+use Rattle.edit_lines.proofs.Common.{◌≡◌, refl, ap, ◌∙◌, ℕ, ◌^◌, ◌<◌, Bool, true, cond, ◌==◌, ◌&&◌, ◌||◌, nat_lt, List, [], ◌∷◌, ◌++◌, take, drop, append_assoc, append-nil, take-append-drop, arith, nat_tests, Result, Ok, both, between_is, number_below, subscriber_ranges, is_between, is_number, are_between, LAST_SUBSCRIBER, SubscriberRow, AccessInfoRow, SpecialFacilityRow}
+use Rattle.tatp_rows.specs.Packed.{packed}
 use Rattle.edit_lines.specs.Lines.{digits, line_of, has_line, is_typed, has_forwarding_key}
-use Rattle.edit_lines.specs.Reading.{number_of, numbers_of, if_has_line, fields_in, location_from, update_from, insert_from, delete_from, subscriber_from, access_from, facility_from, active_from, number_from, event_behind, event_of}
+use Rattle.edit_lines.specs.Reading.{if_has_line, fields_in, location_from, update_from, insert_from, delete_from, subscriber_from, access_from, facility_from, active_from, number_from, event_of}
 use Rattle.edit_lines.specs.declared.error.LineError.{LineError}
-use Rattle.edit_lines.specs.declared.error.LineError.TheVariants as errors
 use Rattle.hlr_core.specs.declared.event.Event.{Event}
 use Rattle.hlr_core.specs.declared.event.Event.TheVariants.{UpdateSubscriber, UpdateLocation, InsertForwarding, DeleteForwarding, AddSubscriber, AddAccess, AddFacility, SetActive, SetNumber}
-use Rattle.edit_lines.proofs.FieldLemmas.{written, AllFit, AreFields, fields_back, fields_forth}
-use Rattle.edit_lines.proofs.PackLemmas.{AreSmall, unpacked-packed, packed-small, small_from, low_half, high_half, low_of, high_of}
+use Rattle.edit_lines.proofs.FieldLemmas.{written, AllFit, fields_back}
+use Rattle.edit_lines.proofs.PackLemmas.{unpacked-packed, packed-small, small_from, low_half, high_half}
 
 -- lists one after another, grouped from the left as a line is, and from the right as fields are
 pub two : (a b : List ℕ) → a ++ b ≡ a ++ (b ++ [])
@@ -188,8 +187,8 @@ subscriber_again row holds =
     let high_below = packed-small 256 5 (drop 5 row.bytes) high in
     let ns : List ℕ = row.s_id ∷ row.sub_nbr ∷ packed 2 row.bits ∷ packed 16 row.hexes ∷ packed 256 (take 5 row.bytes) ∷ packed 256 (drop 5 row.bytes) ∷ row.msc_location ∷ row.vlr_location ∷ [] in
     let made : subscriber_from ns ≡ Ok (AddSubscriber row) =
-        four_tests _ _ _ _ _ _ (below_test (packed 2 row.bits) (2 ^ 10) bits_below) (below_test (packed 16 row.hexes) (2 ^ 40) (omega arith)) (below_test (packed 256 (take 5 row.bytes)) (2 ^ 40) (omega arith)) (below_test (packed 256 (drop 5 row.bytes)) (2 ^ 40) (omega arith))
-        ∙ rw (unpacked-packed 2 10 row.bits bits, unpacked-packed 16 10 row.hexes hexes, unpacked-packed 256 5 (take 5 row.bytes) low, unpacked-packed 256 5 (drop 5 row.bytes) high, take-append-drop 5 row.bytes) (held (AddSubscriber row) holds) in
+    four_tests _ _ _ _ _ _ (below_test (packed 2 row.bits) (2 ^ 10) bits_below) (below_test (packed 16 row.hexes) (2 ^ 40) (omega arith)) (below_test (packed 256 (take 5 row.bytes)) (2 ^ 40) (omega arith)) (below_test (packed 256 (drop 5 row.bytes)) (2 ^ 40) (omega arith))
+    ∙ rw (unpacked-packed 2 10 row.bits bits, unpacked-packed 16 10 row.hexes hexes, unpacked-packed 256 5 (take 5 row.bytes) low, unpacked-packed 256 5 (drop 5 row.bytes) high, take-append-drop 5 row.bytes) (held (AddSubscriber row) holds) in
     again (4 ∷ 8 ∷ 2 ∷ 6 ∷ 6 ∷ 6 ∷ 5 ∷ 5 ∷ []) ns _ subscriber_from _
     (eight (digits 4 row.s_id) (digits 8 row.sub_nbr) (digits 2 (packed 2 row.bits)) (digits 6 (packed 16 row.hexes)) (digits 6 (packed 256 (take 5 row.bytes))) (digits 6 (packed 256 (drop 5 row.bytes))) (digits 5 row.msc_location) (digits 5 row.vlr_location))
     (omega arith, (omega arith, (omega arith, (omega arith, (omega arith, (omega arith, (omega arith, (omega arith, tt))))))))

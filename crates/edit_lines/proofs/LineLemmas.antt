@@ -1,5 +1,5 @@
 -- Lines have neither zeros nor line feeds in them.
-use Rattle.edit_lines.proofs.Common.{ℕ, zero, suc, ◌+◌, ◌/◌, ◌<◌, List, [], ◌∷◌, ◌++◌, take, drop, arith, AllByRecursion}
+use Rattle.edit_lines.proofs.Common.{ℕ, zero, suc, ◌/◌, ◌<◌, List, [], ◌∷◌, ◌++◌, take, drop, arith, AllByRecursion}
 use Rattle.tatp_rows.specs.Packed.{packed}
 use Rattle.edit_lines.specs.Lines.{digits, line_of}
 use Rattle.hlr_core.specs.declared.event.Event.{Event}
@@ -31,15 +31,21 @@ plain_line (InsertForwarding sub_nbr sf_type start_time end_time numberx) =
     (omega arith, rw (five (digits 8 sub_nbr) (digits 1 sf_type) (digits 1 start_time) (digits 1 end_time) (digits 8 numberx)) (plain-written (8 ∷ 1 ∷ 1 ∷ 1 ∷ 8 ∷ []) (sub_nbr ∷ sf_type ∷ start_time ∷ end_time ∷ numberx ∷ [])))
 plain_line (DeleteForwarding sub_nbr sf_type start_time) =
     (omega arith, rw (three (digits 8 sub_nbr) (digits 1 sf_type) (digits 1 start_time)) (plain-written (8 ∷ 1 ∷ 1 ∷ []) (sub_nbr ∷ sf_type ∷ start_time ∷ [])))
-plain_line (AddSubscriber row) =
-    (omega arith, rw (eight (digits 4 row.s_id) (digits 8 row.sub_nbr) (digits 2 (packed 2 row.bits)) (digits 6 (packed 16 row.hexes)) (digits 6 (packed 256 (take 5 row.bytes))) (digits 6 (packed 256 (drop 5 row.bytes))) (digits 5 row.msc_location) (digits 5 row.vlr_location))
-    (plain-written (4 ∷ 8 ∷ 2 ∷ 6 ∷ 6 ∷ 6 ∷ 5 ∷ 5 ∷ []) (row.s_id ∷ row.sub_nbr ∷ packed 2 row.bits ∷ packed 16 row.hexes ∷ packed 256 (take 5 row.bytes) ∷ packed 256 (drop 5 row.bytes) ∷ row.msc_location ∷ row.vlr_location ∷ [])))
-plain_line (AddAccess row) =
-    (omega arith, rw (six (digits 4 row.s_id) (digits 1 row.ai_type) (digits 2 row.data1) (digits 2 row.data2) (digits 3 (packed 128 row.data3)) (digits 5 (packed 128 row.data4)))
-    (plain-written (4 ∷ 1 ∷ 2 ∷ 2 ∷ 3 ∷ 5 ∷ []) (row.s_id ∷ row.ai_type ∷ row.data1 ∷ row.data2 ∷ packed 128 row.data3 ∷ packed 128 row.data4 ∷ [])))
-plain_line (AddFacility row) =
-    (omega arith, rw (six (digits 4 row.s_id) (digits 1 row.sf_type) (digits 1 row.is_active) (digits 2 row.error_cntrl) (digits 2 row.data_a) (digits 5 (packed 128 row.data_b)))
-    (plain-written (4 ∷ 1 ∷ 1 ∷ 2 ∷ 2 ∷ 5 ∷ []) (row.s_id ∷ row.sf_type ∷ row.is_active ∷ row.error_cntrl ∷ row.data_a ∷ packed 128 row.data_b ∷ [])))
+plain_line (AddSubscriber row) = (
+  omega arith,
+  rw (eight (digits 4 row.s_id) (digits 8 row.sub_nbr) (digits 2 (packed 2 row.bits)) (digits 6 (packed 16 row.hexes)) (digits 6 (packed 256 (take 5 row.bytes))) (digits 6 (packed 256 (drop 5 row.bytes))) (digits 5 row.msc_location) (digits 5 row.vlr_location))
+      (plain-written (4 ∷ 8 ∷ 2 ∷ 6 ∷ 6 ∷ 6 ∷ 5 ∷ 5 ∷ []) (row.s_id ∷ row.sub_nbr ∷ packed 2 row.bits ∷ packed 16 row.hexes ∷ packed 256 (take 5 row.bytes) ∷ packed 256 (drop 5 row.bytes) ∷ row.msc_location ∷ row.vlr_location ∷ [])),
+)
+plain_line (AddAccess row) = (
+  omega arith,
+  rw (six (digits 4 row.s_id) (digits 1 row.ai_type) (digits 2 row.data1) (digits 2 row.data2) (digits 3 (packed 128 row.data3)) (digits 5 (packed 128 row.data4)))
+      (plain-written (4 ∷ 1 ∷ 2 ∷ 2 ∷ 3 ∷ 5 ∷ []) (row.s_id ∷ row.ai_type ∷ row.data1 ∷ row.data2 ∷ packed 128 row.data3 ∷ packed 128 row.data4 ∷ [])),
+)
+plain_line (AddFacility row) = (
+  omega arith,
+  rw (six (digits 4 row.s_id) (digits 1 row.sf_type) (digits 1 row.is_active) (digits 2 row.error_cntrl) (digits 2 row.data_a) (digits 5 (packed 128 row.data_b)))
+      (plain-written (4 ∷ 1 ∷ 1 ∷ 2 ∷ 2 ∷ 5 ∷ []) (row.s_id ∷ row.sf_type ∷ row.is_active ∷ row.error_cntrl ∷ row.data_a ∷ packed 128 row.data_b ∷ [])),
+)
 plain_line (SetActive s_id sf_type is_active) =
     (omega arith, rw (three (digits 4 s_id) (digits 1 sf_type) (digits 1 is_active)) (plain-written (4 ∷ 1 ∷ 1 ∷ []) (s_id ∷ sf_type ∷ is_active ∷ [])))
 plain_line (SetNumber s_id sub_nbr) =

@@ -1,5 +1,5 @@
 -- Lists of small numbers that are packed into a number and unpacked again.
-use Rattle.edit_lines.proofs.Common.{◌≡◌, refl, ap, ◌∙◌, ℕ, zero, suc, ◌+◌, ◌-◌, ◌*◌, ◌/◌, ◌%◌, ◌^◌, ◌<◌, ◌≤◌, true, List, [], ◌∷◌, ◌++◌, length, get_or, take, drop, length-take, length-drop, get_or-take, get_or-drop, take_at, drop_at, arith, EachIndex, ◌==◌, list_all, both, between_each, length-are_between, are_between, is_between, add-mul-div_left, add-mul-mod_self_left, div-eq_of_lt, mod-eq_of_lt}
+use Rattle.edit_lines.proofs.Common.{◌≡◌, refl, ap, ◌∙◌, ℕ, zero, suc, ◌+◌, ◌*◌, ◌/◌, ◌%◌, ◌^◌, ◌<◌, true, List, [], ◌∷◌, ◌++◌, length, get_or, take, drop, length-take, length-drop, get_or-take, get_or-drop, take_at, drop_at, arith, EachIndex, ◌==◌, list_all, both, between_each, length-are_between, are_between, is_between, add-mul-div_left, add-mul-mod_self_left, div-eq_of_lt, mod-eq_of_lt}
 use Rattle.tatp_rows.specs.Packed.{packed, unpacked}
 use Rattle.edit_lines.proofs.DigitLemmas.{packed_below}
 

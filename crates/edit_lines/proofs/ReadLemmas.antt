@@ -1,13 +1,13 @@
 -- What is read has the line that was read, kind by kind.
-use Rattle.edit_lines.proofs.Common.{◌≡◌, refl, sym, ap, subst, ◌∙◌, ℕ, suc, ◌+◌, ◌*◌, ◌^◌, ◌<◌, ◌≤◌, ◌⊎◌, inl, inr, Bool, true, false, cond, ◌==◌, ◌&&◌, nat_lt, List, [], ◌∷◌, ◌++◌, length, get_or, take, drop, arith, nat_tests, Result, Ok, Err, IfOk, both, SubscriberRow}
-use Rattle.tatp_rows.specs.Packed.{packed, unpacked, packed_back}
+use Rattle.edit_lines.proofs.Common.{◌≡◌, refl, sym, ap, subst, ◌∙◌, ℕ, suc, ◌^◌, ◌<◌, ◌⊎◌, inl, inr, Bool, true, false, cond, ◌==◌, ◌&&◌, nat_lt, List, [], ◌∷◌, ◌++◌, get_or, take, drop, arith, nat_tests, Result, Ok, Err, IfOk, SubscriberRow}
+use Rattle.tatp_rows.specs.Packed.{unpacked, packed_back}
 use Rattle.edit_lines.specs.Lines.{digits, line_of, has_line}
 use Rattle.edit_lines.specs.Reading.{number_of, numbers_of, if_has_line, fields_in, location_from, update_from, insert_from, delete_from, subscriber_from, access_from, facility_from, active_from, number_from, event_behind, event_of}
 use Rattle.edit_lines.specs.declared.error.LineError.{LineError}
 use Rattle.edit_lines.specs.declared.error.LineError.TheVariants as errors
 use Rattle.hlr_core.specs.declared.event.Event.{Event}
 use Rattle.hlr_core.specs.declared.event.Event.TheVariants.{UpdateSubscriber, UpdateLocation, InsertForwarding, DeleteForwarding, AddSubscriber, AddAccess, AddFacility, SetActive, SetNumber}
-use Rattle.edit_lines.proofs.FieldLemmas.{written, AllFit, AreFields, fields_forth}
+use Rattle.edit_lines.proofs.FieldLemmas.{written, AreFields, fields_forth}
 use Rattle.edit_lines.proofs.KindLemmas.{two, three, four, five, six, eight, line_again}
 use Rattle.edit_lines.proofs.PackLemmas.{low_of, high_of}
 
@@ -30,10 +30,6 @@ grouped : (letter : ℕ) (counts bytes line : List ℕ) → AreFields counts byt
 grouped letter counts bytes line fields same = ap (λ (ds : List ℕ). letter ∷ ds) (sym (same ∙ fields.same))
 
 module _ (bytes : List ℕ) (small : (i : ℕ) → get_or bytes i 0 < 256) (event : Event) where
-
-
-
-
   location_read : fields_in (8 ∷ 5 ∷ []) location_from bytes ≡ Ok event → IsLineOf 76 bytes event
   location_read is =
       let counts : List ℕ = 8 ∷ 5 ∷ [] in
@@ -164,16 +160,43 @@ lettered letter is bytes event same line =
 
 behind : (letter : ℕ) (bytes : List ℕ) (event : Event) → ((i : ℕ) → get_or bytes i 0 < 256) → event_behind letter bytes ≡ Ok event → IsLineOf letter bytes event
 behind letter bytes event small is =
-    elim (chosen (letter == 76) _ _ _ is) [ inl a ↦ lettered letter 76 bytes event a.0 (location_read bytes small event a.1) | inr a ↦
-    elim (chosen (letter == 85) _ _ _ a.1) [ inl b ↦ lettered letter 85 bytes event b.0 (update_read bytes small event b.1) | inr b ↦
-    elim (chosen (letter == 73) _ _ _ b.1) [ inl c ↦ lettered letter 73 bytes event c.0 (insert_read bytes small event c.1) | inr c ↦
-    elim (chosen (letter == 68) _ _ _ c.1) [ inl d ↦ lettered letter 68 bytes event d.0 (delete_read bytes small event d.1) | inr d ↦
-    elim (chosen (letter == 83) _ _ _ d.1) [ inl e ↦ lettered letter 83 bytes event e.0 (subscriber_read bytes small event e.1) | inr e ↦
-    elim (chosen (letter == 65) _ _ _ e.1) [ inl f ↦ lettered letter 65 bytes event f.0 (access_read bytes small event f.1) | inr f ↦
-    elim (chosen (letter == 70) _ _ _ f.1) [ inl g ↦ lettered letter 70 bytes event g.0 (facility_read bytes small event g.1) | inr g ↦
-    elim (chosen (letter == 79) _ _ _ g.1) [ inl h ↦ lettered letter 79 bytes event h.0 (active_read bytes small event h.1) | inr h ↦
-    elim (chosen (letter == 78) _ _ _ h.1) [ inl k ↦ lettered letter 78 bytes event k.0 (number_read bytes small event k.1) | inr k ↦
-    let none = k.1 in absurd cc ] ] ] ] ] ] ] ] ]
+    elim (chosen (letter == 76) _ _ _ is) [
+      | inl a ↦ lettered letter 76 bytes event a.0 (location_read bytes small event a.1)
+      | inr a ↦
+          elim (chosen (letter == 85) _ _ _ a.1) [
+            | inl b ↦ lettered letter 85 bytes event b.0 (update_read bytes small event b.1)
+            | inr b ↦
+                elim (chosen (letter == 73) _ _ _ b.1) [
+                  | inl c ↦ lettered letter 73 bytes event c.0 (insert_read bytes small event c.1)
+                  | inr c ↦
+                      elim (chosen (letter == 68) _ _ _ c.1) [
+                        | inl d ↦ lettered letter 68 bytes event d.0 (delete_read bytes small event d.1)
+                        | inr d ↦
+                            elim (chosen (letter == 83) _ _ _ d.1) [
+                              | inl e ↦ lettered letter 83 bytes event e.0 (subscriber_read bytes small event e.1)
+                              | inr e ↦
+                                  elim (chosen (letter == 65) _ _ _ e.1) [
+                                    | inl f ↦ lettered letter 65 bytes event f.0 (access_read bytes small event f.1)
+                                    | inr f ↦
+                                        elim (chosen (letter == 70) _ _ _ f.1) [
+                                          | inl g ↦ lettered letter 70 bytes event g.0 (facility_read bytes small event g.1)
+                                          | inr g ↦
+                                              elim (chosen (letter == 79) _ _ _ g.1) [
+                                                | inl h ↦ lettered letter 79 bytes event h.0 (active_read bytes small event h.1)
+                                                | inr h ↦
+                                                    elim (chosen (letter == 78) _ _ _ h.1) [
+                                                      | inl k ↦ lettered letter 78 bytes event k.0 (number_read bytes small event k.1)
+                                                      | inr k ↦
+                                                          let none = k.1 in absurd cc
+                                                    ]
+                                              ]
+                                        ]
+                                  ]
+                            ]
+                      ]
+                ]
+          ]
+    ]
 
 line_read : (line : List ℕ) (event : Event) → ((i : ℕ) → get_or line i 0 < 256) → event_of line ≡ Ok event → (has_line event ≡ true) × (line ≡ line_of event)
 line_read [] event small is = absurd cc

@@ -14,7 +14,7 @@ mod writing;
 
 pub use done::done_is_change;
 pub use error::LineError;
-pub use hlr_core::Event;
 pub use first::{check_first_line, push_first_line};
+pub use hlr_core::Event;
 pub use reading::read_line;
 pub use writing::push_line;

@@ -6,9 +6,7 @@ ghost use Rattle.edit_lines.specs.Reading.{fields_in, location_from, update_from
 use crate::digits::{check, join, number_at, unpack};
 use crate::error::LineError;
 use hlr_core::Event;
-use tatp_rows::{
-    Access, Facility, LAST_SUBSCRIBER, Letters, Number, Subscriber, is_start_time,
-};
+use tatp_rows::{Access, Facility, LAST_SUBSCRIBER, Letters, Number, Subscriber, is_start_time};
 
 /// Returns whether there can be a row of a subscriber with this s_id and type.
 fn is_typed(s_id: u64, kind: u64) -> bool

@@ -203,7 +203,10 @@ fn push_event(lines: &mut Vec<u8>, event: &Event) -> Result<(), AllocError>
             start_time,
             end_time,
             numberx,
-        } => push(lines, insert_line(sub_nbr, sf_type, start_time, end_time, numberx)),
+        } => push(
+            lines,
+            insert_line(sub_nbr, sf_type, start_time, end_time, numberx),
+        ),
         Event::DeleteForwarding {
             sub_nbr,
             sf_type,

@@ -1,4 +1,4 @@
-use Rattle.edit_lines.proofs.Common.{unpack_none, unpack_more, unpack_all}
+use Rattle.edit_lines.proofs.Common.{unpack_more, unpack_all}
 use Rattle.edit_lines.proofs.digits.unpack.Goals as goal
 
 pub loop-i-preserved : goal.loop-i-preserved
