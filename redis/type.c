@@ -45,8 +45,10 @@ void store_counts(struct store *store, int64_t counts[HLR_CELLS]) {
     for (int cell = 0; cell < HLR_CELLS; cell++) counts[cell] += unposted[cell];
 }
 
+/* Ends the server with a line in its log: what can't be done again, and why. */
 static _Noreturn void end_for(redis_context *ctx, const char *what, const char *outcome, const char *why) {
-    redis.Log(ctx, "warning", "%s %s, so this server ends rather than continue with other rows: %s", what, outcome, why);
+    redis.Log(ctx, "warning", "%s %s, so this server ends rather than continue with other rows: %s", what, outcome,
+              why);
     exit(1);
 }
 
