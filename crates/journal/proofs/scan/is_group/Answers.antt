@@ -1,0 +1,18 @@
+use Rattle.std.proofs.Common.{◌≡◌, ◌+◌, ◌++◌, [], ◌∷◌, get_or, take, subst, sym, arith}
+use Rattle.std.proofs.lemmas.List.{take_more}
+use Rattle.std.proofs.lemmas.Bool.Decides.{nat_tests}
+use Rattle.journal.specs.Lines.{HasNoZero, IsWhole}
+use Rattle.journal.proofs.LineLemmas.{open_one_feed}
+use Rattle.journal.proofs.TextLemmas.{text_byte, no_zero-append}
+use Rattle.journal.proofs.scan.is_group.Goals as goal
+
+pub loop-byte-preserved : goal.loop-byte-preserved
+loop-byte-preserved c =
+    let bytes = c.args.bytes.now in
+    let i = c.loop-byte.byte-index in
+    let byte = get_or bytes i 0 in
+    let more : take (i + 1) bytes ≡ take i bytes ++ byte ∷ [] = take_more bytes i 0 c.loop-byte-test.true in
+    record {
+      none = subst HasNoZero (sym more) (no_zero-append (take i bytes) (byte ∷ []) c.loop-byte.invariant.none (text_byte byte [] c.if-byte-eq0.false));
+      whole = λ is. subst IsWhole (sym more) (open_one_feed (take i bytes) byte (grind (arith, nat_tests, is)));
+    }

@@ -1,0 +1,4 @@
+pub mod Inside
+pub mod Lines
+pub mod Machine
+pub mod Tape

@@ -1,0 +1,15 @@
+//! A state that lines lead on from.
+ghost use Rattle.std.specs.Prelude.{List, ℕ, OnOk};
+
+use journal_file::JournalFault;
+
+/// A state that is made anew from the lines of a journal.
+pub trait Machine {
+    /// The line may lead from the first state to the second.
+    ghost moves: { List ℕ → Self → Self → Type 0 };
+
+    /// Does what a line says; its line feed isn't part of it. Gives up with `BadLine` if the line says nothing that can be
+    /// done, or with `Memory`.
+    fn apply(&mut self, line: &[u8]) -> Result<(), JournalFault>
+        ensures moves { OnOk result (moves line.now self.old self.new) };
+}

@@ -1,0 +1,39 @@
+//! Reads a file to its end, one piece after another.
+ghost use Rattle.std.specs.Prelude.{◌≡◌, [], IfOk, OnOk};
+ghost use Rattle.journal.specs.Lines.{recovered};
+ghost use Rattle.journal.specs.Machine.{Runs};
+ghost use Rattle.journal.specs.Tape.{AreEnds};
+
+use crate::follower::Follower;
+use crate::{Ends, Machine};
+use journal_file::{JournalFault, Unread};
+use std::alloc::Global;
+
+/// A piece has so many bytes, and no more of the file is in memory at a time, besides a line that has begun.
+const PIECE: usize = 1 << 16;
+
+const MAX_LEN: usize = 1 << 62;
+
+/// Reads a file to its end, and does what each line of its text says, in order. Returns where its parts end. Gives up
+/// with `Full` past 2^62 bytes, and as [`Unread::read_on`] and the machine do.
+pub fn replay<U: Unread, M: Machine>(
+    alloc: Global,
+    unread: &mut U,
+    machine: &mut M,
+) -> Result<Ends, JournalFault>
+    requires unread { U.read unread.old ≡ [] }
+    ensures whole { OnOk result (U.IsRead unread.new) }
+    ensures ends { IfOk result (λ ends. AreEnds (U.read unread.new) ends) }
+    ensures runs { OnOk result (Runs M.moves (recovered (U.read unread.new)) machine.old machine.new) }
+{
+    let mut piece = [0; PIECE];
+    let mut follower = Follower::new(alloc);
+    while follower.ends.len < MAX_LEN {
+        let n = unread.read_on(&mut piece)?;
+        if n == 0 {
+            return Ok(follower.ends);
+        }
+        follower.follow(machine, &piece[..n])?;
+    }
+    Err(JournalFault::Full)
+}

@@ -1,0 +1,3 @@
+pub mod ByteLemmas
+mod CallLemmas
+mod PastLemmas

@@ -1,0 +1,51 @@
+-- By hand: a record of no bytes is made, whose ghost list is empty.
+use Rattle.std.proofs.Common.{[], ◌∷◌, refl}
+use seplogic.Ra.Ura.{Ura}
+use mir.Val.{vstruct, vnil}
+use base.Logic.{SProp, ent, emp, via, fst∗}
+use prog.Memory.{Memory}
+use prog.Routine.{Routine}
+use prog.Wp.{WpFn, Tables}
+use types.Logic.{Logic}
+use contract.Monad.{Fun}
+use contract.Running.{tables, tables_of}
+use sound.WpLaws.{WpFn-mono}
+use types.Kit.{‵, raw, ◌$◌, ◌∵◌, !, qed, move, suffices, done}
+use types.Run.{no_more, returns, enter}
+use types.Part.{agg}
+use types.ByLocal.{alloc_all, pass_all, free_all, look_at, sets}
+use denote.RattleType.{owns}
+use denote.Shadow.{pure_i}
+use denote.Triple.Entry.{on_entry, alive}
+use denote.Triple.Spec.{Meets, triple_of}
+use denote.Triple.Table.{entered}
+use denote.Triple.Walked.{says, walk_of, ends_at, walked, walk_Meets}
+use Rattle.journal_file.specs.declared.record.Record.{Record}
+use Rattle.journal_file.specs.contracts.record.Record as row
+use Rattle.journal_file.specs.contracts.record.Record.new as told
+use Rattle.journal_file.specs.contracts.record.Record.new.Key.{name as key}
+use Rattle.journal_file.proofs.record.Record.new.Statement as stated
+use Rattle.journal_file.proofs.record.Record.new.Code as code
+
+abbrev made : Record
+made = record { calls = [] }
+
+meets : {M : Type 1} {𝓤 : Ura M} (𝓛 : Logic 𝓤) (mem : Memory → SProp 𝓤) (run : Routine → Fun 𝓤) (𝓣 : Tables 𝓤 𝓛.H)
+    → Meets 𝓛 told.signature (WpFn 𝓤 𝓛.H 𝓣.C 𝓣.Λ code.function) (told.spec 𝓛 mem run)
+meets {𝓤 = 𝓤} 𝓛 mem run 𝓣 =
+    let clauses = told.clauses 𝓛 mem run in
+    let bound : (walk_of 𝓛 told.ended tt clauses).Ghost = ((tt, tt, tt, tt, tt), tt) in
+    let walk : ent 𝓤 (on_entry 𝓛 told.signature tt tt tt tt) (WpFn 𝓤 𝓛.H 𝓣.C 𝓣.Λ code.function [] ((walk_of 𝓛 told.ended tt clauses).post bound)) =
+    qed 𝓛 (raw (alive 𝓛 told.signature tt tt) ∷ ‵ (owns [] tt tt) ∷ []) ∵ enter ! 𝓣.C 𝓣.Λ code.function [] _ $
+    alloc_all ! (λ l. pass_all ! refl tt $ sets ! (agg ! (no_more !)) refl (tt, tt) $ returns ! (look_at ! 0 refl) $ free_all ! refl $
+    suffices ! _ (ends_at 𝓛 told.ended tt clauses bound (vstruct vnil) made tt tt) $ says ! refl $
+    pure_i ! (row.the_row.own_val made (vstruct vnil ∷ [])) ((λ vss. (tt, tt)), tt) ((tt, (refl, tt)), tt) $ move ! (1 ∷ 2 ∷ 0 ∷ []) $ done !) in
+    walk_Meets 𝓛 told.ended tt tt clauses (WpFn 𝓤 𝓛.H 𝓣.C 𝓣.Λ code.function) (WpFn-mono 𝓤 𝓛.H 𝓛.laws 𝓣 code.function)
+    (walked 𝓛 told.ended tt clauses (WpFn 𝓤 𝓛.H 𝓣.C 𝓣.Λ code.function) (λ κs. tt) (λ κs. tt) (λ κs qs bounds a g are. via 𝓤 _ (fst∗ 𝓤 _ (emp 𝓤)) walk))
+
+pub new_spec : {M : Type 1} → stated.statement M
+unfolding tables_of
+new_spec 𝓤 𝓛 𝓜 𝓡 wired =
+    entered 𝓤 𝓛.H (triple_of 𝓛 told.signature (told.spec 𝓛 𝓜.mem 𝓡.returns))
+    (tables 𝓤 𝓛.H 𝓜 𝓡 𝓡.env).C (tables 𝓤 𝓛.H 𝓜 𝓡 𝓡.env).Λ key code.function (code.unfolded 𝓤 𝓛.H 𝓜 𝓡 wired)
+    (meets 𝓛 𝓜.mem 𝓡.returns (tables_of 𝓤 𝓛.H 𝓜 (tables 𝓤 𝓛.H 𝓜 𝓡 𝓡.env)))

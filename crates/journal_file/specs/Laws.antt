@@ -1,0 +1,27 @@
+-- The two laws of a file's moments, of a list of calls and of a list of contents.
+use Rattle.std.specs.Prelude.{◌≡◌, ◌⊎◌, ℕ, List, [], ◌∷◌, length, drop, Vec}
+use Rattle.std.specs.declared.alloc.Global.{Global}
+use Rattle.std.proofs.Common.{inl, inr, arith}
+use Rattle.journal_file.specs.Calls.{Call, left_after, left_since}
+use Rattle.journal_file.specs.Memory.{HadBeen}
+
+-- this moment is one of those since an earlier one
+pub now_counts : (calls : List Call) (t : ℕ) (c : List ℕ) → left_after calls c → left_since calls t c
+now_counts [] t c now = now
+now_counts (call ∷ earlier) t c now = inl now
+
+-- since this moment there is no other
+pub now_alone : (calls : List Call) (c : List ℕ) → left_since calls (length calls) c → left_after calls c
+now_alone [] c left = left
+now_alone (call ∷ earlier) c (inl now) = now
+now_alone (call ∷ earlier) c (inr before) = absurd (omega (arith, before.0))
+
+-- no content is left behind the last one
+none_left : (past : List (Vec ℕ Global)) (c : List ℕ) → HadBeen (drop (length past) past) c → ⊥
+none_left [] c had = had
+none_left (content ∷ past) c had = none_left past c had
+
+-- since this moment there is no other content
+pub bytes_alone : (past : List (Vec ℕ Global)) (bytes c : List ℕ) → (c ≡ bytes) ⊎ HadBeen (drop (length past) past) c → c ≡ bytes
+bytes_alone past bytes c (inl now) = now
+bytes_alone past bytes c (inr had) = absurd (none_left past c had)

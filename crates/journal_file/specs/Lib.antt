@@ -1,0 +1,5 @@
+pub mod Calls
+pub mod Device
+pub mod Disk
+pub mod Laws
+pub mod Memory

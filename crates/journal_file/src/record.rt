@@ -1,0 +1,51 @@
+//! What a file was asked to do and what it answered: a list that only clauses read. It takes no memory.
+ghost use Rattle.std.specs.Prelude.{◌≡◌, List, [], ◌∷◌, Bool};
+ghost use Rattle.std.specs.Borrow.{ftrue};
+ghost use Rattle.journal_file.specs.Calls.{Call, seen_after};
+ghost use Rattle.journal_file.specs.declared.record.Step.TheVariants.{Replaced};
+
+use std::marker::Model;
+
+/// Says which call a file had, and whether the call was done.
+#[derive(Clone, Copy, Debug)]
+pub enum Step {
+    /// These bytes were read behind those that were read before, from a file that was synced.
+    Held,
+    Wrote { at: usize, is_done: bool },
+    Blanked { from: usize, is_done: bool },
+    Grew { more: usize, is_done: bool },
+    Synced { is_done: bool },
+    /// A file with these bytes was given its place.
+    Replaced { is_done: bool },
+}
+
+#[derive(Drop)]
+pub struct Record {
+    pub ghost calls: { List Call },
+}
+
+impl Model for Record {
+    ghost also_owns = { λ _. ftrue };
+}
+
+impl Record {
+    pub(crate) fn new() -> Record
+        ensures { result.calls ≡ [] }
+    {
+        Record {}
+    }
+
+    /// Returns the list with one call more.
+    pub(crate) fn with(_before: &Record, _step: &Step, _bytes: &[u8]) -> Record
+        ensures { result.calls ≡ (_step.now, _bytes.now) ∷ _before.now.calls }
+    {
+        Record {}
+    }
+
+    /// Returns the list with one call more: the file that the second list is about was given the place.
+    pub(crate) fn with_next(_before: &Record, _next: &Record, _step: &Step) -> Record
+        ensures { result.calls ≡ (_step.now, seen_after _next.now.calls) ∷ _before.now.calls }
+    {
+        Record {}
+    }
+}
