@@ -4,7 +4,7 @@
 #   ./test.sh [--no-install]            both; the last line is 'N passed, N failed'
 #   ./test.sh [--no-install] program    the built programs and the library alone, as they stand in crates/*/out
 #
-# The second takes five minutes at most. Its parts are scripts of tests/outside; each can be run alone.
+# CONTRIBUTING.md says how long they take. The parts of the second are scripts of tests/outside; each can be run alone.
 #
 # Where root runs it and apt-get is there, it first installs from Debian's packages those of the tools below that are missing,
 # and says which; --no-install leaves that out. A part that lacks a tool says what it skips for that reason, and the last line

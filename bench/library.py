@@ -4,6 +4,8 @@ maps of C++ (bench/library_plain.cc) and SQLite in memory (bench/library_sqlite.
 a tenth of the calls. A call for many answers 16 questions, each of which counts.
 usage: library.py calls [ROUNDS [SUBSCRIBERS ..]]     5 rounds with 1,000, 100,000 and 1,000,000 subscribers
        library.py owners [ROUNDS [SUBSCRIBERS ..]]    threads that each have a part, and threads that share a handle by a lock
+       library.py network [ROUNDS [SUBSCRIBERS ..]]   registers of a whole network, with 1,000,000 and 12,000,000
+                                                      subscribers, which take 7 GB of memory
 
 At the repository's top, once `rt lib --cpu x86-64` ran in crates/hlr_c; LIBRARY is another libhlr_c.a. The maps of absl want
 Debian's libabsl-dev, and SQLite libsqlite3-dev: without them these columns are named as skipped."""
@@ -19,6 +21,8 @@ LIBRARY = os.environ.get("LIBRARY", f"{HERE}/../crates/hlr_c/out/libhlr_c.a")
 MAPS = {"std::map": [], "absl::btree_map": [], "std::unordered_map": [],
         "absl::flat_hash_map": ["-labsl_raw_hash_set", "-labsl_hash", "-labsl_city", "-labsl_low_level_hash", "-labsl_hashtablez_sampler"]}
 CALLS = 1_000_000
+NETWORK_CALLS = ["gsd", "gad", "gnd", "ul"]
+NETWORK_WALKS = ["pages", "scan", "divide", "close"]
 
 
 def run(*words):
@@ -101,10 +105,33 @@ def compare_owners(room, subscribers, rounds):
             print(f"| {size:,}, {load} | " + " | ".join(f"{speed / 1e6:.1f}" for speed in speeds) + " |")
 
 
-def main(what, rounds="5", *sizes):
-    subscribers = [int(size) for size in sizes or ("1000", "100000", "1000000")]
+def measure_network(room, subscribers, rounds):
+    """Prints the bytes of a subscriber, and the processor's time of a load, of calls, and of what walks over rows."""
+    program = build_over_hlr(f"{HERE}/network.c", f"{room}/network")
+    heads = ["subscribers, order", "bytes each", "load, s", *(f"`{call}`, µs" for call in NETWORK_CALLS)]
+    heads += [f"{walk}, s" for walk in NETWORK_WALKS]
+    print("| " + " | ".join(heads) + " |\n" + "|---" * len(heads) + "|")
+    for size in subscribers:
+        for order in "rising", "random":
+            taken = {}
+            for _ in range(rounds):
+                told = subprocess.run([program, str(size), order], check=True, capture_output=True, text=True).stdout
+                for measure, value in map(str.split, told.splitlines()):
+                    taken.setdefault(measure, []).append(float(value))
+            medians = {measure: statistics.median(values) for measure, values in taken.items()}
+            cells = [f"{size:,}, {order}", f"{medians['bytes']:.0f}", f"{medians['load']:.1f}"]
+            cells += [f"{medians[call] * 1e6:.2f}" for call in NETWORK_CALLS]
+            cells += [f"{medians[walk]:.2f}" for walk in NETWORK_WALKS]
+            print("| " + " | ".join(cells) + " |", flush=True)
+
+
+def main(what, rounds=None, *sizes):
+    sizes_of_calls = ("1000", "100000", "1000000")
+    measures = {"calls": (compare, "5", sizes_of_calls), "owners": (compare_owners, "5", sizes_of_calls),
+                "network": (measure_network, "1", ("1000000", "12000000"))}
+    measure, usual_rounds, usual_sizes = measures[what]
     with tempfile.TemporaryDirectory() as room:
-        {"calls": compare, "owners": compare_owners}[what](room, subscribers, int(rounds))
+        measure(room, [int(size) for size in sizes or usual_sizes], int(rounds or usual_rounds))
 
 
 main(*sys.argv[1:])

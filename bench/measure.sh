@@ -1,10 +1,11 @@
 #!/usr/bin/env bash
-# Measures what docs/SPEED.md has in seconds, in some five minutes on a machine where nothing else runs: the program compared
-# with others, parts, an engine, the program with threads, the library for C, and threads with lent parts. First it prints the
+# Measures what docs/SPEED.md has in seconds, on a machine where nothing else runs: the program compared with others, parts, an
+# engine, the program with threads, the library for C, threads with lent parts, and the Redis module. First it prints the
 # machine, the day and the commit.
 #
 #   bash bench/measure.sh write      builds the programs to measure beside, and writes the loads; once, before
-#   bash bench/measure.sh [NAME ..]  measures: beside, parts, engine, threads, library, owners; without a name all of them
+#   bash bench/measure.sh [NAME ..]  measures: beside, parts, engine, threads, library, owners, redis; without a name all of
+#                                    them but redis, which needs dist.sh before
 #
 # At the repository's top, once `rt run` ran in crates/hlr and `rt lib --cpu x86-64` in crates/hlr_c; it works in /tmp/bench (ROOM). HLR is
 # another program, ENGINE an engine_bench that is built (bench/engine/run.sh builds it).
@@ -31,7 +32,17 @@ measure() {
     threads) python3 bench/threads.py "$hlr" 3 3 ;;
     library) python3 bench/library.py calls 5 ;;
     owners) python3 bench/library.py owners 5 ;;
+    redis) over_network dist/lib/redis/modules/hlr.so ;;
   esac
+}
+
+# over_network MODULE: the Redis module compared with hashes and scripts, and how registers are saved, loaded and moved.
+over_network() {
+  python3 bench/redis/run.py "$1" mix --each
+  python3 bench/redis/run.py "$1" mix --subscribers 1000000 --turns 3
+  python3 bench/redis/run.py "$1" room --subscribers 1000000
+  python3 bench/redis/run.py "$1" files --subscribers 1000000 --turns 3
+  python3 bench/redis/run.py "$1" move --subscribers 100000
 }
 
 # machine: prints on what it is measured, when, and what.

@@ -23,8 +23,8 @@
  *     system's usual size.
  *
  * The files: memory.c counts the memory of registers, type.c has the data type, walk.c reads all rows in order,
- * rows.c turns rows into bytes and back, loading.c loads them with several threads, fields.c reads words, replies.c writes replies, and reads.c, writes.c and
- * add.c have the commands. This file describes the commands to Redis.
+ * rows.c turns rows into bytes and back, loading.c loads them with several threads, fields.c reads words, replies.c
+ * writes replies, and reads.c, writes.c and add.c have the commands. This file describes the commands to Redis.
  */
 #define _GNU_SOURCE /* for sched_getaffinity */
 #include "hlr_redis.h"

@@ -111,8 +111,13 @@ static uint8_t collected(struct chunk *chunk, const uint8_t *block, size_t lengt
     return HLR_DONE;
 }
 
+/* The first block is loaded at once, so that a small register needs no room for a chunk. */
 static uint8_t added(struct loading *loading, const uint8_t *block, size_t length) {
     uint8_t code = HLR_DONE;
+    if (!loading->is_begun) {
+        loading->is_begun = 1;
+        return rows_of_block(loading->handle, block, length);
+    }
     if (filling(loading)->blocks == CHUNK_BLOCKS) code = cut(loading, first_of_block(block, length));
     if (code == HLR_DONE) code = subscribers_of_block(loading->handle, block, length);
     return code == HLR_DONE ? collected(filling(loading), block, length) : code;

@@ -90,6 +90,7 @@ struct loading {
     int threads;
     size_t taken; /* the memory that all threads took */
     uint64_t parts;
+    int is_begun;    /* whether a block was loaded */
     uint64_t filled; /* how many chunks were handed over */
     uint8_t code;    /* the first refusal */
     struct chunk chunks[LOADERS + 1];

@@ -13,15 +13,17 @@
   files   how long a save, a load, a fork, a copy and a removal take
   move    how long a register takes from one server to another and back
 
-It starts servers on free ports of loopback, each in a folder of its own below ROOM (/tmp/bench), and ends them. The
-servers share one processor and the client has another, the last two that this program may use. Times are medians of the
-turns, in which both stores take their turn. It prints tables for docs/SPEED.md. It needs gcc, redis-server and
-redis-cli.
+It starts servers on free ports of loopback, each in a folder of its own below ROOM (/tmp/bench), and ends them. In mix
+and room the servers share one processor and the client has another, the last two that this program may use. In files
+and move the servers have all processors, because threads load a register; LOAD_THREADS chooses how many, 0 to 4. Times
+are medians of the turns, in which both stores take their turn. It prints tables for docs/SPEED.md, and needs gcc,
+redis-server and redis-cli.
 """
 import argparse
 import os
 import pathlib
 import shutil
+import signal
 import socket
 import statistics
 import subprocess
@@ -46,13 +48,15 @@ def free_port():
 class Server:
     """A redis-server with a store of its kind: hlr or hashes."""
 
-    def __init__(self, kind, module, client, subscribers):
+    def __init__(self, kind, module, client, subscribers, own):
         self.kind, self.client, self.subscribers, self.port = kind, client, str(subscribers), free_port()
         self.folder = tempfile.mkdtemp(prefix=kind, dir=ROOM)
         words = ["redis-server", "--bind", "127.0.0.1", "--port", str(self.port), "--dir", self.folder, "--save", "",
                  "--enable-debug-command", "yes", "--rdbcompression", "no", "--loadmodule", str(module)]
+        if "LOAD_THREADS" in os.environ:
+            words += ["LOAD-THREADS", os.environ["LOAD_THREADS"]]
         self.child = subprocess.Popen(words, stdout=subprocess.DEVNULL, stdin=subprocess.DEVNULL,
-                                      preexec_fn=lambda: os.sched_setaffinity(0, {processors[-1]}))
+                                      preexec_fn=lambda: os.sched_setaffinity(0, own))
         while self.ask("PING").strip() != "PONG":
             if self.child.poll() is not None:
                 sys.exit(f"redis-server doesn't start with {module}")
@@ -223,10 +227,12 @@ def main():
     client = str(ROOM / "tatp_redis")
     subprocess.run(["gcc", "-O2", "-o", client, str(HERE / "tatp.c")], check=True)
     kinds = ("hlr", "hlr") if given.what == "move" else ("hlr", "hashes")
+    signal.signal(signal.SIGTERM, lambda *_: sys.exit(1))
+    own = {processors[-1]} if given.what in ("mix", "room") else set(processors)
     servers = []
     try:
         for kind in kinds:
-            servers.append(Server(kind, given.module.resolve(), client, given.subscribers))
+            servers.append(Server(kind, given.module.resolve(), client, given.subscribers, own))
         {"mix": mix, "room": room, "files": files, "move": move}[given.what](servers, given)
     finally:
         for server in servers:

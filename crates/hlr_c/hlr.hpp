@@ -27,7 +27,7 @@
  * there, with hlr_ or hlr_part_ in front. These rules are the ones that people break first:
  *
  *   1. Make one call at a time on a store, and one on a part, even if the calls only read. For this reason no call is
- *      const.
+ *      const. Two calls at once are undefined behaviour, and code::not_open is no lock.
  *   2. Give each variable a value before you pass it, for example with hlrpp::subscriber row{}. A call writes its
  *      results only if it returns code::done.
  *   3. Don't pass the same object twice in one call.
@@ -114,7 +114,20 @@ using region = hlr_region;
 using region_list = hlr_region_list;
 using bounds = hlr_bounds;
 
+/* The constants of hlr.h. */
+inline constexpr std::uint64_t max_s_id = HLR_MAX_S_ID;
+inline constexpr std::uint64_t max_width = HLR_MAX_WIDTH;
+inline constexpr std::size_t max_parts = HLR_MAX_PARTS;
+inline constexpr std::size_t max_pieces = HLR_MAX_PIECES;
+inline constexpr std::size_t max_regions = HLR_MAX_REGIONS;
 inline constexpr std::size_t cells = HLR_CELLS;
+inline constexpr std::size_t hour_cell = HLR_HOUR_CELL;
+inline constexpr std::size_t area_cell = HLR_AREA_CELL;
+inline constexpr std::size_t zone_cell = HLR_ZONE_CELL;
+inline constexpr std::size_t hours = HLR_HOURS;
+inline constexpr std::size_t areas = HLR_AREAS;
+inline constexpr std::size_t zones = HLR_ZONES;
+inline constexpr std::uint64_t area_width = HLR_AREA_WIDTH;
 
 /* The counts that store::scan makes, one for each cell. */
 using counts = std::array<std::uint64_t, cells>;
@@ -126,7 +139,7 @@ struct view {
 };
 
 /* Which end of a part store::give cuts off: the subscribers below a number, or those from it on. */
-enum class side : std::uint64_t { low = 0, high = 1 };
+enum class side : std::uint64_t { low = HLR_LOW, high = HLR_HIGH };
 
 namespace detail {
 /* Returns codes as hlr.h has them, which is one byte each. */
@@ -264,21 +277,21 @@ public:
         return code{hlr_next_subscriber(&handle_, from, &row)};
     }
 
-    /* Calls that list the rows of a table from a key on: they write at most room rows, and store how many in found. */
-    code next_subscribers(std::uint64_t s_id, subscriber *rows, std::size_t room, std::uint64_t &found) noexcept {
-        return code{hlr_next_subscribers(&handle_, s_id, rows, room, &found)};
+    /* Calls that list the rows of a table from a key on: they write at most room rows, and store how many in count. */
+    code next_subscribers(std::uint64_t s_id, subscriber *rows, std::size_t room, std::uint64_t &count) noexcept {
+        return code{hlr_next_subscribers(&handle_, s_id, rows, room, &count)};
     }
     code next_accesses(std::uint64_t s_id, std::uint64_t ai_type, access *rows, std::size_t room,
-                       std::uint64_t &found) noexcept {
-        return code{hlr_next_accesses(&handle_, s_id, ai_type, rows, room, &found)};
+                       std::uint64_t &count) noexcept {
+        return code{hlr_next_accesses(&handle_, s_id, ai_type, rows, room, &count)};
     }
     code next_facilities(std::uint64_t s_id, std::uint64_t sf_type, facility *rows, std::size_t room,
-                         std::uint64_t &found) noexcept {
-        return code{hlr_next_facilities(&handle_, s_id, sf_type, rows, room, &found)};
+                         std::uint64_t &count) noexcept {
+        return code{hlr_next_facilities(&handle_, s_id, sf_type, rows, room, &count)};
     }
     code next_forwardings(std::uint64_t s_id, std::uint64_t sf_type, std::uint64_t start_time, forwarding_row *rows,
-                          std::size_t room, std::uint64_t &found) noexcept {
-        return code{hlr_next_forwardings(&handle_, s_id, sf_type, start_time, rows, room, &found)};
+                          std::size_t room, std::uint64_t &count) noexcept {
+        return code{hlr_next_forwardings(&handle_, s_id, sf_type, start_time, rows, room, &count)};
     }
 
     /* Calls that read many rows: they use the first count elements of each array. */

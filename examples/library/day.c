@@ -25,26 +25,28 @@ static int views(void) {
 }
 
 int main(void) {
-    hlr_subscriber seven = {.s_id = 7, .sub_nbr = 7, .msc_location = 1, .vlr_location = 268435456}, seventy = seven, row = {0};
+    hlr_subscriber seven = {.s_id = 7, .sub_nbr = 49151000007, .msc_location = 1, .vlr_location = HLR_AREA_WIDTH};
+    hlr_subscriber seventy = seven, row = {0};
     hlr_access access = {.s_id = 7, .ai_type = 1, .data1 = 255, .data3 = {'A', 'B', 'C'}, .data4 = {'V', 'W', 'X', 'Y', 'Z'}};
     hlr_facility forwarding = {.s_id = 7, .sf_type = 2, .is_active = 1, .data_b = {'A', 'B', 'C', 'D', 'E'}};
     hlr_numbers numbers = {0};
     hlr_region_list regions = {0};
-    hlr_region part = {0};
+    hlr_region part = {0}, piece = {0};
     hlr_bounds bounds = {0};
     uint64_t count = 0;
-    seventy.s_id = seventy.sub_nbr = 70;
+    seventy.s_id = 70;
+    seventy.sub_nbr = 49151000070;
     if (!done("open", hlr_open(2, 4, &handle))) return 1;
     if (!done("add 7", hlr_add_subscriber(&handle, &seven))) return 1;
     if (!done("add 7 again", hlr_add_subscriber(&handle, &seven))) return 1;
     if (!done("add 70", hlr_add_subscriber(&handle, &seventy))) return 1;
     if (!done("add an access", hlr_add_access(&handle, &access))) return 1;
     if (!done("add a facility", hlr_add_facility(&handle, &forwarding))) return 1;
-    if (!done("forward 7 from 8 to 16", hlr_insert_forwarding(&handle, 7, 2, 8, 16, 100))) return 1;
+    if (!done("forward 7 from 8 to 16", hlr_insert_forwarding(&handle, seven.sub_nbr, 2, 8, 16, 100))) return 1;
     done("a call at 8", hlr_new_destination(&handle, 7, 2, 8, 12, &numbers));
     printf("  goes to %015" PRIu64 ", of %" PRIu64 "\n", numbers.numbers[0], numbers.count);
     if (!done("number 77 for 7", hlr_set_number(&handle, 7, 77))) return 1;
-    done("move 77", hlr_update_location(&handle, 77, 536870912));
+    done("move 77", hlr_update_location(&handle, 77, 2 * HLR_AREA_WIDTH));
     done("clear bit_1 of 7", hlr_update_subscriber(&handle, 7, 2, 0, 9));
     done("read 7", hlr_subscriber_data(&handle, 7, &row));
     printf("  number %015" PRIu64 ", at %" PRIu64 "\n", row.sub_nbr, row.vlr_location);
@@ -55,9 +57,9 @@ int main(void) {
     done("post part 0", hlr_post(&handle, 0, HLR_CELLS, &count));
     done("post part 1", hlr_post(&handle, 1, HLR_CELLS, &count));
     if (!views()) return 1;
-    if (!done("give what part 0 has from 5 on", hlr_give(&handle, 0, 1, 5, &part))) return 1;
+    if (!done("give what part 0 has from 5 on", hlr_give(&handle, 0, HLR_HIGH, 5, &piece))) return 1;
     done("read 7 on its way", hlr_subscriber_data(&handle, 7, &row));
-    if (!done("take it into part 1", hlr_take(&handle, part.number, 1))) return 1;
+    if (!done("take it into part 1", hlr_take(&handle, piece.number, 1))) return 1;
     done("propose", hlr_propose(&handle, &bounds));
     if (!done("recut", hlr_recut(&handle, &bounds, &count))) return 1;
     if (!done("divide part 1 at 70", hlr_divide(&handle, 1, 70, &part))) return 1;

@@ -7,7 +7,7 @@
 #include <stdlib.h>
 
 #define WIDTH 4 /* subscribers in a zone, so part 1 begins at 1 + 16 * WIDTH, which is 65 */
-#define AREA_1 268435456
+#define AREA_1 HLR_AREA_WIDTH /* the first location of area 1 */
 
 static hlr handle = HLR_CLOSED;
 
@@ -38,7 +38,7 @@ int main(void) {
     uint64_t moved = 0;
     want("hlr_open", hlr_open(2, WIDTH, &handle));
     for (uint64_t s_id = 1; s_id <= 128; s_id++) {
-        hlr_subscriber row = {.s_id = s_id, .sub_nbr = s_id, .msc_location = 1, .vlr_location = 1};
+        hlr_subscriber row = {.s_id = s_id, .sub_nbr = 49151000000 + s_id, .msc_location = 1, .vlr_location = 1};
         want("hlr_add_subscriber", hlr_add_subscriber(&handle, &row));
     }
     for (int part = 0; part < 2; part++) {
@@ -51,7 +51,7 @@ int main(void) {
         want("hlr_back", hlr_back(&handle, (uint64_t)part));
     }
     want("hlr_look", hlr_look(&handle, published));
-    printf("%" PRId64 " subscribers in area 1\n", published[25]);
+    printf("%" PRId64 " subscribers in area 1\n", published[HLR_AREA_CELL + 1]);
     want("hlr_recut", hlr_recut(&handle, &bounds, &moved));
     printf("%" PRIu64 " bound moved: part 1 begins at %" PRIu64 " now\n", moved, bounds.bounds[0]);
     want("hlr_close", hlr_close(&handle));

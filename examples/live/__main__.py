@@ -3,7 +3,8 @@
     HLR_LIBRARY=/tmp/libhlr.so PYTHONPATH=python python3 examples/live [--minutes N] [--port N] ..
 
 It prints the page's address, serves it to this machine alone (127.0.0.1), and ends after --minutes, or at Ctrl-C. It is
-a demonstration: each run makes a register of drawn subscribers, which is gone as the run ends.
+a demonstration: each run makes a register of drawn subscribers, which is gone as the run ends. With --server, the
+register is in a Redis server that has loaded hlr.so, at the key `live`, and clients call it over the network.
 """
 import argparse
 import http.server
@@ -19,7 +20,7 @@ try:
     import hlr
 except ImportError:
     sys.exit("there is no package hlr: set PYTHONPATH to the folder python")
-from store import ACTIONS, Store
+from store import ACTIONS, Shown, Store
 
 PAGE = pathlib.Path(__file__).with_name("page.html")
 OWN = ("default-src 'none'; script-src 'unsafe-inline'; style-src 'unsafe-inline'; connect-src 'self'; img-src data:; "
@@ -31,7 +32,7 @@ class Server(http.server.ThreadingHTTPServer):
 
     daemon_threads = False  # as it is closed, it waits for what is being answered
 
-    def __init__(self, port: int, store: Store) -> None:
+    def __init__(self, port: int, store: Shown) -> None:
         super().__init__(("127.0.0.1", port), Handler)
         self.store = store
         self.names = [f"{name}:{self.server_port}" for name in ("127.0.0.1", "localhost")]
@@ -113,14 +114,36 @@ class Handler(http.server.BaseHTTPRequestHandler):
         self.answer_json({"said": self.server.store.act(action, part)})
 
 
+def made(given: argparse.Namespace) -> Shown:
+    """Makes the register, here or in a server."""
+    shape = given.parts, given.subscribers, given.pace, given.seed
+    if not given.server:
+        return Store(*shape)
+    try:
+        import redis
+        from served import ServedStore
+    except ModuleNotFoundError:
+        sys.exit("there is no python3-redis: install Debian's package, and use /usr/bin/python3")
+    try:
+        return ServedStore(given.server, *shape)
+    except ValueError as fault:
+        sys.exit(f"--server {given.server}: {fault}")
+    except hlr.StillOpen:
+        sys.exit(f"--server {given.server}: there is a key live already")
+    except redis.RedisError as fault:
+        sys.exit(f"--server {given.server}: {fault}")
+
+
 def main() -> None:
     parser = argparse.ArgumentParser(prog="python3 examples/live", description=__doc__,
                                      formatter_class=argparse.RawDescriptionHelpFormatter)
     for name, kind, usual, about in (
             ("--minutes", float, 10, "when it ends"), ("--port", int, 0, "where the page is; 0 is any that is free"),
-            ("--parts", int, 4, "1 to 16"), ("--subscribers", int, 3000, "about how many, 100 to 100000"),
+            ("--parts", int, 4, "1 to 16; with --server, how many clients"),
+            ("--subscribers", int, 3000, "about how many, 100 to 100000"),
             ("--pace", int, 2000, "calls a second, 1 to 20000"), ("--seed", int, 1, "which subscribers are drawn")):
         parser.add_argument(name, type=kind, default=usual, metavar="N", help=f"{about} ({usual})")
+    parser.add_argument("--server", metavar="URL", help="a Redis server, as redis://127.0.0.1:6379")
     given = parser.parse_args()
     for name, least, most in (("minutes", 0, 1440), ("port", 0, 65535), ("parts", 1, 16),
                               ("subscribers", 100, 100000), ("pace", 1, 20000)):
@@ -130,7 +153,7 @@ def main() -> None:
     for number in (signal.SIGINT, signal.SIGTERM):
         signal.signal(number, lambda *_: over.set())
     try:
-        store = Store(given.parts, given.subscribers, given.pace, given.seed)
+        store = made(given)
     except ImportError as fault:
         sys.exit(str(fault))
     try:
@@ -144,7 +167,7 @@ def main() -> None:
         over.wait(given.minutes * 60)
         server.shutdown()
         store.end()
-    store.register.close()
+    store.close()
 
 
 if __name__ == "__main__":

@@ -5,7 +5,7 @@ import contextlib
 import random
 import threading
 import time
-from typing import Any, Callable, Dict, Iterator, List, Optional, Tuple, Union
+from typing import Any, Callable, Dict, Iterator, List, Optional, Tuple
 
 import hlr
 
@@ -18,14 +18,14 @@ def _letters(chance: random.Random, count: int) -> str:
     return "".join(chance.choices("ABCDEFGHIJKLMNOPQRSTUVWXYZ", k=count))
 
 
-def _subscribers(chance: random.Random, count: int) -> Tuple[int, List[int]]:
+def drawn_subscribers(chance: random.Random, count: int) -> Tuple[int, List[int]]:
     """A zone's width, and about `count` subscribers in order: many in the first zones, and few in the last ones."""
     width = max(4, -(-count * 100 // (55 * ZONES)))
     return width, [s_id for s_id in range(1, ZONES * width + 1)
                    if chance.random() < 0.95 - 0.8 * ((s_id - 1) // width) / (ZONES - 1)]
 
 
-def _populate(register: hlr.Register, chance: random.Random, s_id: int) -> None:
+def populate(register: Any, chance: random.Random, s_id: int) -> None:
     """The rows of a subscriber, whose number is its s_id, as TATP has them."""
     register.add_subscriber(hlr.Subscriber(s_id, s_id, vlr_location=AREA * min(15, int(chance.gammavariate(4, 1.2)))
                                            + chance.randrange(1, AREA)))
@@ -39,7 +39,7 @@ def _populate(register: hlr.Register, chance: random.Random, s_id: int) -> None:
             register.insert_forwarding(s_id, sf_type, start, start + chance.randint(1, 8), chance.randrange(10 ** 15))
 
 
-def _call(register: Union[hlr.Part, hlr.Register], chance: random.Random, s_id: int) -> None:
+def call(register: Any, chance: random.Random, s_id: int) -> None:
     """A transaction of TATP's mix, by an s_id, which is the number too. Subscribers go where most go now, an area further
     on each four seconds."""
     roll = chance.randrange(100)
@@ -61,30 +61,32 @@ def _call(register: Union[hlr.Part, hlr.Register], chance: random.Random, s_id: 
         register.delete_forwarding(s_id, sf_type, start)
 
 
-class Store:
-    """A register in parts, each with a thread that is lent the part at each of its turns, and works on it alone.
+class Shown:
+    """What a page shows: a register at which threads work, and how many calls they made. `lock` is for all of it."""
 
-    Whoever works on the register has `lock`; calls on a part that is out need none. While a piece is loose, the thread of
-    the part beside it goes on to call for its subscribers, and is refused with Moving.
-    """
-
-    def __init__(self, parts: int, subscribers: int, pace: int, seed: int) -> None:
-        chance = random.Random(seed)
+    def __init__(self, pace: int, seed: int) -> None:
         self.lock = threading.RLock()
         self.news = threading.Condition(self.lock)
-        self.came_home = threading.Condition(self.lock)
-        self.out = self.wanted = 0  # how many parts are out, and how many calls wait for them
         self.ending = threading.Event()
         self.pace, self.seed, self.is_running = pace, seed, True
-        self.width, self.subscribers = _subscribers(chance, subscribers)
-        self.register = hlr.Register(parts, self.width)
-        for s_id in self.subscribers:
-            _populate(self.register, chance, s_id)
         self.version = self.calls = self.refused = self.moving = 0
-        self.proposed: List[int] = []
-        self.regions: List[hlr.Region] = []
-        self.served: List[range] = []
         self.threads: List[threading.Thread] = []
+
+    def _staff(self) -> None:
+        """Starts the threads that call."""
+        raise NotImplementedError
+
+    def state(self) -> Dict[str, Any]:
+        """Returns what the page is told."""
+        raise NotImplementedError
+
+    def act(self, action: str, part: int) -> str:
+        """Does what a button says, for the part that is chosen, and returns what came of it."""
+        raise NotImplementedError
+
+    def close(self) -> None:
+        """Gives back what the register has."""
+        raise NotImplementedError
 
     def start(self) -> None:
         """Starts the threads."""
@@ -101,11 +103,53 @@ class Store:
         for thread in threads:
             thread.join()
 
-    # The threads.
-
     def _start(self, name: str, work: Callable[..., None], *passed: int) -> None:
         self.threads.append(threading.Thread(target=work, name=name, args=passed))
         self.threads[-1].start()
+
+    def _tell(self) -> None:
+        """The thread that has the page told four times a second."""
+        while not self.ending.wait(0.25):
+            self.changed()
+
+    def changed(self) -> None:
+        """Has the page told."""
+        with self.lock:
+            self.version += 1
+            self.news.notify_all()
+
+    def next(self, version: int) -> Dict[str, Any]:
+        """Waits until there is something newer than a version, or the end, and tells it."""
+        with self.lock:
+            self.news.wait_for(lambda: self.version > version or self.ending.is_set())
+            return self.state()
+
+
+class Store(Shown):
+    """A register in parts, each with a thread that is lent the part at each of its turns, and works on it alone.
+
+    Whoever works on the register has `lock`; calls on a part that is out need none. While a piece is loose, the thread of
+    the part beside it goes on to call for its subscribers, and is refused with Moving.
+    """
+
+    def __init__(self, parts: int, subscribers: int, pace: int, seed: int) -> None:
+        super().__init__(pace, seed)
+        chance = random.Random(seed)
+        self.came_home = threading.Condition(self.lock)
+        self.out = self.wanted = 0  # how many parts are out, and how many calls wait for them
+        self.width, self.subscribers = drawn_subscribers(chance, subscribers)
+        self.register = hlr.Register(parts, self.width)
+        for s_id in self.subscribers:
+            populate(self.register, chance, s_id)
+        self.proposed: List[int] = []
+        self.regions: List[hlr.Region] = []
+        self.served: List[range] = []
+
+    def close(self) -> None:
+        """Closes the register."""
+        self.register.close()
+
+    # The threads.
 
     def _staff(self) -> None:
         """Looks which subscribers each part's thread calls for, and starts threads for new parts. These are the part's
@@ -160,7 +204,7 @@ class Store:
     def _call(self, owner: hlr.Part, chance: random.Random, s_id: int) -> str:
         """How a call for a subscriber ends. Whoever isn't in the part is in a loose piece, as the register knows."""
         try:
-            _call(owner, chance, s_id)
+            call(owner, chance, s_id)
         except hlr.Elsewhere:
             with self.lock:
                 return self._call_register(chance, s_id)
@@ -170,7 +214,7 @@ class Store:
 
     def _call_register(self, chance: random.Random, s_id: int) -> str:
         try:
-            _call(self.register, chance, s_id)
+            call(self.register, chance, s_id)
         except hlr.Moving:
             return "moving"
         except hlr.Refused:
@@ -188,24 +232,7 @@ class Store:
             finally:
                 self.wanted -= 1
 
-    def _tell(self) -> None:
-        """The thread that has the page told four times a second."""
-        while not self.ending.wait(0.25):
-            self.changed()
-
-    def changed(self) -> None:
-        """Has the page told."""
-        with self.lock:
-            self.version += 1
-            self.news.notify_all()
-
     # What the page is told.
-
-    def next(self, version: int) -> Dict[str, Any]:
-        """Waits until there is something newer than a version, or the end, and tells it."""
-        with self.lock:
-            self.news.wait_for(lambda: self.version > version or self.ending.is_set())
-            return self.state()
 
     def state(self) -> Dict[str, Any]:
         """The counts and the regions now."""
@@ -216,7 +243,7 @@ class Store:
             return {"version": self.version, "is_running": self.is_running, "calls": self.calls,
                     "refused": self.refused, "moving": self.moving, "published": published, "unposted": unposted,
                     "regions": regions, "proposed": self.proposed, "width": self.width,
-                    "subscribers": len(self.subscribers)}
+                    "subscribers": len(self.subscribers), "server": ""}
 
     def _between(self, lo: int, hi: int) -> int:
         return bisect.bisect_left(self.subscribers, hi) - bisect.bisect_left(self.subscribers, lo)

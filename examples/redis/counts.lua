@@ -1,5 +1,5 @@
--- The counts of all registers of a server, for prometheus-redis-exporter --script: names and values in turn. The exporter
--- offers them as redis_script_values{key="hlr:areas:2"}. In a cluster, run an exporter for each node.
+-- The counts of all registers of a server, for prometheus-redis-exporter -script: names and values in turn. The
+-- exporter offers them as redis_script_values{key="hlr:areas:2"}. In a cluster, run an exporter for each node.
 local told = {}
 
 local function tell(name, value)

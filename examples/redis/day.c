@@ -48,8 +48,8 @@ static long long number_of(const redisReply *row, const char *name) {
 static void morning(redisContext *server) {
     redisAppendCommand(server, "HLR.CREATE day ZONE 313");
     for (int s_id = 1; s_id <= SUBSCRIBERS; s_id++) {
-        redisAppendCommand(server, "HLR.ADDSUB day %d %d 0000000000 0000000000 00000000000000000000 1 %u", s_id, 100 + s_id,
-                           AREA);
+        redisAppendCommand(server, "HLR.ADDSUB day %d %d 0000000000 0000000000 00000000000000000000 1 %u", s_id,
+                           100 + s_id, AREA);
         redisAppendCommand(server, "HLR.ADDFAC day %d 2 1 0 0 ABCDE", s_id);
         redisAppendCommand(server, "HLR.ICF day %d 2 8 16 %d", 100 + s_id, 500 + s_id);
     }

@@ -3,7 +3,7 @@ import csv
 import re
 from typing import Any, Callable, Dict, Iterable, Iterator, List, Sequence, TextIO
 
-from .refusals import Code, Field, Refused, refusal
+from .refusals import Field, Refused
 from .register import Access, Facility, Forwarding, Register, Subscriber
 
 
@@ -60,9 +60,9 @@ def _all_records(register: Register) -> Iterator[List[object]]:
 
 
 def save(register: Register, file: TextIO) -> int:
-    """Writes all rows as the records sub, acc, fac and icf, one subscriber after another, and returns how many records
-    there are. Calls of other threads wait meanwhile. Before it writes anything, it raises Moving if a piece is loose,
-    and Away if a part is lent.
+    """Writes all rows, also those in loose pieces, as the records sub, acc, fac and icf, one subscriber after another,
+    and returns how many records there are. Calls of other threads wait meanwhile. Raises Away, before it writes
+    anything, if a part is lent.
 
     >>> import io, sys
     >>> register = load(io.StringIO("sub,7,000000000000077,1000000000,0123456789,000102030405060708ff,1,2\\n"))
@@ -72,8 +72,6 @@ def save(register: Register, file: TextIO) -> int:
     """
     records = 0
     with register.held():
-        if any(region.is_piece for region in register.regions()):
-            raise refusal(Code.MOVING, "save")
         for fields in _all_records(register):
             print(*fields, sep=",", file=file)
             records += 1
@@ -132,9 +130,10 @@ _FIELDS = {"sub": 7, "acc": 6, "fac": 6, "icf": 5}
 
 
 def load(file: Iterable[str], parts: int = 1, width: int = 524288) -> Register:
-    """Opens a register of so many parts and of this zone width, and adds the rows of the records sub, acc, fac and icf.
-    Raises ValueError for a record of another kind or with the wrong number of fields. For a record that is refused, it
-    raises the exception of the call that the record asks for, with its line. In both cases it closes the register.
+    """Opens a register of so many parts and of this zone width, neither of which records have, and adds the rows of the
+    records sub, acc, fac and icf. Raises ValueError for a record of another kind or with the wrong number of fields.
+    For a record that is refused, it raises the exception of the call that the record asks for, with its line. In both
+    cases it closes the register.
 
     >>> load(["sub,7,000000000000077,1000000000,0123456789,000102030405060708ff,1,2", "gsd,7"])
     Traceback (most recent call last):

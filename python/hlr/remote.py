@@ -141,7 +141,9 @@ class Register:
         try:
             return self.client.execute_command("HLR." + name, self.key, *map(_word, words))
         except redis.ResponseError as error:
-            refused = _refused(str(error), name.lower())
+            # newer versions of python3-redis have an exception for OOM, and leave the code out of its text
+            is_memory = type(error).__name__ == "OutOfMemoryError"
+            refused = _refused("OOM" if is_memory else str(error), name.lower())
             if refused is None:
                 raise
             raise refused from None

@@ -378,11 +378,11 @@ sub,16777216,999999999999999,1111111111,ffffffffff,ffffffffffffffffffff,1,429496
             self.assertRegex(str(caught.exception), "^line 2: ")
 
     def test_loose(self):
-        with filled(parts=2, width=4) as register:
+        with hlr.load(io.StringIO(self.RECORDS), parts=2, width=4) as register:
             register.give(0, Side.HIGH, 5)
-            file = io.StringIO()
-            self.assertRaises(hlr.Moving, hlr.save, register, file)
-            self.assertEqual(file.getvalue(), "")
+            register.give(1, Side.HIGH, 16777216)
+            self.assertRaises(hlr.Moving, register.facilities, 7)
+            self.assertEqual(self.saved(register), (10, self.RECORDS))
 
 
 class Refusals(unittest.TestCase):

@@ -4,7 +4,7 @@
 . tests/outside/c_lib.sh || exit 1
 header=crates/hlr_c/hlr.h
 in_library=tests/outside/library
-strict=(-Wconversion -Wpedantic)
+strict=(-Wconversion -Wsign-conversion -Wpedantic)
 
 # client NAME WORD ..: compiles a client with the library.
 client() { compiled "$1" -std=c11 -pthread -Icrates/hlr_c "${@:2}" "$archive" "$(kit_archive)"; }
@@ -16,8 +16,8 @@ headers() {
     printf '#include "hlr.h"\nhlr handle = HLR_CLOSED;\n' > "$room/header.cc"
     is 'hlr.h is read by C++' "$(g++ -Wall -Wextra -Werror -fsyntax-only -Icrates/hlr_c "$room/header.cc" 2>&1; echo "$?")" 0
   fi
-  awk -f "$in_library/layout.awk" crates/hlr_c/src/{rows,kept,kept_part,handle,part,codes}.rt crates/tatp_rows/src/refusal.rt \
-    crates/tatp_actions/src/cells.rt > "$room/layout.h"
+  awk -f "$in_library/layout.awk" crates/hlr_c/src/{rows,kept,kept_part,handle,part,codes}.rt crates/tatp_rows/src/{refusal,ranges}.rt \
+    crates/tatp_actions/src/cells.rt crates/part_table/src/{region,bounds}.rt > "$room/layout.h"
   is "hlr.h has the library's layout" "$(gcc -std=c11 -Wall -Wextra -Werror -fsyntax-only -I"$room" -Icrates/hlr_c "$in_library/layout.c" 2>&1; echo "$?")" 0
   awk -f "$in_library/calls.awk" "$header" | sort > "$room/declared"
   awk -f "$in_library/calls.awk" crates/hlr_c/src/*.rt | sort > "$room/wanted"
@@ -113,10 +113,20 @@ tall() {
   ended 'tall trees' /dev/null "$room/tall"
 }
 
+# A register that can't be saved leaves the file as it was, and save.c says why. Loose pieces are saved as well.
+backups() {
+  client backups "${strict[@]}" -Iexamples/library "$in_library/saved.c" || return
+  printf "save: rows.csv isn't replaced: %s\n" Away Away NotOpen > "$room/told"
+  printf 'save: %s\n' 'there can be no file /nowhere/rows.csv.new' "rows.csv isn't replaced: the new file can't be written" >> "$room/told"
+  (cd "$room" && ./backups rows.csv > out 2> err)
+  status=$?
+  ends 'backups in C' 0 '' "$(cat "$room/told")"$'\n'
+}
+
 # A register is saved as records, which the client itself and the program load again: each record is as it was.
 saved() {
   tool python3 'a register that is saved' || return
-  client save examples/library/save.c || return
+  client save "${strict[@]}" examples/library/save.c || return
   python3 bench/tatp_load.py 300 0 2> /dev/null | grep -E '^(sub|acc|fac|icf),' > "$room/records"
   "$room/save" < "$room/records" > "$room/saved"
   is 'a register is saved' "$?" 0
@@ -149,6 +159,7 @@ lent
 no_memory
 closed
 tall
+backups
 saved
 python
 finish

@@ -2,8 +2,9 @@
 
     live.py [CHROMIUM [FOLDER]]
 
-Without the browser, the page isn't tested. Pictures of the page, wide, dark and narrow, go to FOLDER. The last line is
-'N passed, N failed'.
+Without the browser, the page isn't tested. Pictures of the page, wide, dark and narrow, go to FOLDER. If HLR_MODULE is
+the path of the Redis module, the demonstration is tested over a server as well; that needs python3-redis. The last line
+is 'N passed, N failed'.
 """
 import http.client
 import json
@@ -319,6 +320,56 @@ def lives():
         wrong.check(f"{options} {more}", err.endswith(text), err)
 
 
+def in_server(module, program):
+    """The demonstration over a server: its counts, buttons and page, and a server that goes away and comes back."""
+    sys.path.insert(0, str(TOP / "tests/outside/redis"))
+    from servers import Server
+    server = Server("live", module, "--appendonly", "yes", "--appendfsync", "always")
+    url = f"redis://127.0.0.1:{server.port}"
+    live = Live("--minutes", "2", "--pace", "500", "--server", url)
+    press = lambda action: json.loads(live.ask("POST", "/act", json.dumps({"action": action}),
+                                               Content_Type="application/json")[1])["said"]
+    keys = lambda one: one("KEYS", "*")
+    live.check("sums agree with a scan", press("compare").startswith("all 72 sums agree with a scan of "))
+    live.same("a button of parts", press("post"), "a register in a server has no parts")
+    live.same("pause", press("pause"), "no calls are made")
+    time.sleep(0.2)
+    with server.connection() as one:
+        state, told = live.state(), one("HLR.COUNTS", "live")
+        live.same("counts are those of the server", state["published"], told[1] + told[3] + told[5])
+    live.same("nothing is unposted", state["unposted"], [0] * 72)
+    twice = Live("--server", url)
+    twice.same("a second one", (twice.told, *twice.ended()),
+               ("", 1, "", f"--server {url}: there is a key live already\n"))
+    if program:
+        page_of_server(live, program, url)
+    server.kill()
+    live.check("the server is gone", live.state()["server"].endswith(", which doesn't answer"))
+    live.same("the last counts stay", live.state()["published"], state["published"])
+    live.check("a button then", press("compare").startswith("the server doesn't answer: "))
+    server.start()
+    live.same("it is there again, with its rows", (live.state()["server"], live.state()["published"]),
+              (url, state["published"]))
+    live.same("it ends by a signal", live.ended(signal.SIGTERM), (0, "", ""))
+    with server.connection() as one:
+        live.same("nothing is left in the server", keys(one), [])
+    server.stop()
+
+
+def page_of_server(live, program, url):
+    """The page shows the counts of the server, and no part."""
+    with tempfile.TemporaryDirectory() as own, Browser(program, own) as browser:
+        browser.ask("Page.navigate", url=live.url)
+        browser.wait("document.body && document.body.dataset.version > 0")
+        live.check("the page names the server", f" in {url}, " in browser.value("about.textContent"))
+        numbers = browser.value("""[...document.querySelectorAll('.columns tbody tr')].map(row =>
+            [...row.children].map(cell => cell.textContent.replaceAll(',', ''))[3])""")
+        live.same("numbers of the page", numbers, [str(count) for count in live.state()["published"]])
+        live.same("buttons", browser.value("[...document.querySelectorAll('button')].filter(one => "
+                                           "one.offsetParent).map(one => one.dataset.act)"), ["compare", "pause"])
+        live.same("faults of the page", browser.faults, [])
+
+
 def in_browser(program, folder):
     """The page, in the browser."""
     live = Live("--minutes", "2")
@@ -347,6 +398,8 @@ def main():
                 print(f"the browser gave no answer: {fault}", flush=True)
         else:
             live.check("the browser", False, "it gave no answer three times")
+    if os.environ.get("HLR_MODULE"):
+        in_server(os.environ["HLR_MODULE"], sys.argv[1] if len(sys.argv) > 1 else None)
     print(f"{Live.passed} passed, {Live.failed} failed")
 
 

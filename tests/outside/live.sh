@@ -8,7 +8,15 @@ tool python3 'examples/live' || finish
 tool gcc 'examples/live over the library' || finish
 archive_built || finish
 compiled libhlr.so.1 -shared -Wl,--whole-archive "$archive" -Wl,--no-whole-archive "$(kit_archive)" -Wl,-z,defs || finish
+python=python3
+if redis-server --version > "$room/out" 2>&1 && (cd / && /usr/bin/python3 -c 'import redis' 2> "$room/err"); then
+  redis/build.sh "$room/hlr.so" "$archive" "$(kit_archive)" || fail "the module isn't built"
+  export HLR_MODULE=$room/hlr.so
+  python=/usr/bin/python3
+else
+  skip 'redis-server or python3-redis' 'examples/live over a server'
+fi
 browser=()
 if tool chromium 'the page of examples/live in a browser'; then browser=(chromium); fi
-counted timeout 300 python3 -W error tests/outside/live.py ${browser[@]+"${browser[@]}"}
+counted timeout 300 "$python" -W error tests/outside/live.py ${browser[@]+"${browser[@]}"}
 finish

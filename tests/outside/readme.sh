@@ -27,7 +27,7 @@ at_top() { grep -qE '(^|[^A-Za-z0-9_/.-])(\./)?(bench|crates|docs|examples|pytho
 needs() {
   local programs program
   if [[ $1 =~ redis-cli|redis/ && -z $server ]]; then return 1; fi
-  if [[ $1 == /usr/bin/python3* ]] && ! /usr/bin/python3 -c 'import redis' 2> /dev/null; then
+  if [[ $1 == /usr/bin/python3* ]] && ! (cd / && /usr/bin/python3 -c 'import redis' 2> /dev/null); then
     skip python3-redis "$1"
     return 1
   fi

@@ -2,8 +2,8 @@
 # The Redis module hlr.so: blocks of rows without a server, and then everything else with real servers of Redis.
 #
 # The servers listen on loopback and on free ports, have folders of their own, and end with the test, by their process ids. A
-# server that the machine runs already isn't used or disturbed. The tests run in two rows side by side, which takes a minute
-# and a half on four processors.
+# server that the machine runs already isn't used or disturbed. The tests run in two rows side by side, which takes two minutes
+# on four processors.
 . "$(dirname "$0")/lib.sh" || exit 1
 . tests/outside/c_lib.sh || exit 1
 here=tests/outside/redis
@@ -49,10 +49,11 @@ bytes() {
   blocks plain && ended 'blocks of rows under valgrind' /dev/null valgrind -q --leak-check=full --error-exitcode=9 "$room/plain" 300
 }
 
-# python_found: a python3 that has python3-redis, or else any. Only the package hlr.remote needs it.
+# python_found: a python3 that has python3-redis, or else any. Only hlr.remote needs it. It is looked for from elsewhere,
+# because the folder redis of the repository has the same name.
 python_found() {
   for python in python3 /usr/bin/python3; do
-    if "$python" -c 'import redis' 2> /dev/null; then return 0; fi
+    if (cd / && "$python" -c 'import redis' 2> /dev/null); then return 0; fi
   done
   python=python3
   skip python3-redis 'the package hlr.remote'

@@ -40,8 +40,10 @@ impl Follower {
         machine: &mut M,
         piece: &[u8],
     ) -> Result<(), JournalFault>
+        requires ready { M.IsReady machine.old }
         requires order { self.old.ends.text ≤ self.old.ends.len }
         requires fits { self.old.ends.len + length piece.now < 2 ^ 64 }
+        ensures ready { OnOk result (M.IsReady machine.new) }
         ensures follows { OnOk result ((bytes : List ℕ) (first : M) → IsFollowed M.moves bytes first machine.old self.old
             → IsFollowed M.moves (bytes ++ piece.now) first machine.new self.new) }
     {
@@ -52,8 +54,10 @@ impl Follower {
     }
 
     fn push<M: Machine>(&mut self, machine: &mut M, byte: u8) -> Result<(), JournalFault>
+        requires ready { M.IsReady machine.old }
         requires order { self.old.ends.text ≤ self.old.ends.len }
         requires fits { self.old.ends.len + 1 < 2 ^ 64 }
+        ensures ready { OnOk result (M.IsReady machine.new) }
         ensures order { OnOk result (self.new.ends.text ≤ self.new.ends.len) }
         ensures len { OnOk result (self.new.ends.len ≡ self.old.ends.len + 1) }
         ensures follows { OnOk result ((bytes : List ℕ) (first : M) → IsFollowed M.moves bytes first machine.old self.old

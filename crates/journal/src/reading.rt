@@ -22,6 +22,8 @@ pub fn replay<U: Unread, M: Machine>(
     machine: &mut M,
 ) -> Result<Ends, JournalFault>
     requires unread { U.read unread.old ≡ [] }
+    requires ready { M.IsReady machine.old }
+    ensures ready { OnOk result (M.IsReady machine.new) }
     ensures whole { OnOk result (U.IsRead unread.new) }
     ensures ends { IfOk result (λ ends. AreEnds (U.read unread.new) ends) }
     ensures runs { OnOk result (Runs M.moves (recovered (U.read unread.new)) machine.old machine.new) }

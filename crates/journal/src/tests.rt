@@ -1,4 +1,4 @@
-ghost use Rattle.std.specs.Prelude.{◌≡◌, ◌++◌, [], ◌∷◌, IfOk};
+ghost use Rattle.std.specs.Prelude.{⊤, ◌≡◌, ◌++◌, [], ◌∷◌, IfOk};
 ghost use Rattle.journal.specs.Lines.{text, IsWhole};
 ghost use Rattle.journal.specs.Tape.{IsOpen};
 
@@ -14,6 +14,8 @@ struct Lines {
 }
 
 impl Machine for Lines {
+    ghost IsReady = { λ _. ⊤ };
+
     ghost moves = { λ line old new. new.bytes.items ≡ old.bytes.items ++ line ++ 10 ∷ [] };
 
     fn apply(&mut self, line: &[u8]) -> Result<(), JournalFault> {

@@ -2,6 +2,7 @@
 use Rattle.std.proofs.Common.{inl, inr, ⊎_elim, ◌≡◌, ◌⊎◌, Bool, true, false, ℕ, ◌-◌, ◌≤◌, List, [], ◌∷◌, length, replicate, refl, sym, ◌∙◌, subst, arith}
 use Rattle.std.proofs.lemmas.List.{append-nil}
 use Rattle.journal_file.specs.Calls.{Call, seen_after, left_after, left_since}
+use Rattle.journal_file.specs.Laws.{seen_left}
 use Rattle.journal_file.specs.Device.{Elapses, Follows, Mixes, Fades, IsFront, Only}
 use Rattle.journal_file.specs.declared.record.Step.TheVariants.{Held, Wrote, Blanked, Grew, Synced, Replaced}
 use Rattle.journal_file.proofs.ByteLemmas.{fades_same, fades_blanked, mixes_same, mixes_over, front_same}
@@ -13,10 +14,6 @@ one_call calls call = record {
   nothing_else = λ t c le left. ⊎_elim (λ now. inr now) (λ was. inl was.1) left;
   keeps = λ t c le was. inr (le, was);
 }
-
-pub seen_left : (calls : List Call) → left_after calls (seen_after calls)
-seen_left [] = refl
-seen_left (call ∷ calls) = inl refl
 
 pub wrote_follows : (calls : List Call) (at : ℕ) (is_done : Bool) (bytes : List ℕ)
     → Follows (Mixes at bytes) (left_after calls) (left_after ((Wrote at is_done, bytes) ∷ calls))

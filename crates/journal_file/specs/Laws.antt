@@ -1,14 +1,19 @@
--- The two laws of a file's moments, of a list of calls and of a list of contents.
+-- The laws of a file's moments, of a list of calls and of a list of contents.
 use Rattle.std.specs.Prelude.{◌≡◌, ◌⊎◌, ℕ, List, [], ◌∷◌, length, drop, Vec}
 use Rattle.std.specs.declared.alloc.Global.{Global}
-use Rattle.std.proofs.Common.{inl, inr, arith}
-use Rattle.journal_file.specs.Calls.{Call, left_after, left_since}
+use Rattle.std.proofs.Common.{inl, inr, refl, arith}
+use Rattle.journal_file.specs.Calls.{Call, seen_after, left_after, left_since}
 use Rattle.journal_file.specs.Memory.{HadBeen}
 
 -- this moment is one of those since an earlier one
 pub now_counts : (calls : List Call) (t : ℕ) (c : List ℕ) → left_after calls c → left_since calls t c
 now_counts [] t c now = now
 now_counts (call ∷ earlier) t c now = inl now
+
+-- the bytes that a file has are among those that a crash may leave
+pub seen_left : (calls : List Call) → left_after calls (seen_after calls)
+seen_left [] = refl
+seen_left (call ∷ calls) = inl refl
 
 -- since this moment there is no other
 pub now_alone : (calls : List Call) (c : List ℕ) → left_since calls (length calls) c → left_after calls c

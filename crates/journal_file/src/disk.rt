@@ -2,7 +2,7 @@
 ghost use Rattle.std.specs.Prelude.{◌≡◌, ◌<◌, ◌≤◌, [], ◌∷◌, true, length, IfOk};
 ghost use Rattle.journal_file.specs.Calls.{seen_after, left_after, faults_in, left_since};
 ghost use Rattle.journal_file.specs.Disk.{disk_read};
-ghost use Rattle.journal_file.specs.Laws.{now_counts, now_alone};
+ghost use Rattle.journal_file.specs.Laws.{now_counts, now_alone, seen_left};
 ghost use Rattle.journal_file.specs.declared.record.Step.TheVariants.{Held};
 
 use crate::record::{Record, Step};
@@ -66,7 +66,7 @@ impl Unread for UnreadDisk {
         };
         self.log = Record::with(&self.log, &Step::Held, &buffer[..n]);
         self.len = self.len.saturating_add(n);
-        if n == 0 {
+        if n == 0 && !buffer.is_empty() {
             self.is_read = true;
         }
         Ok(n)
@@ -156,6 +156,8 @@ impl Device for Disk {
     ghost faults = { λ f. faults_in f.log.calls };
 
     ghost counts_now = { λ f t c le now. now_counts f.log.calls t c now };
+
+    ghost leaves_seen = { λ f. seen_left f.log.calls };
 
     ghost only_now = { λ f c left. now_alone f.log.calls c left };
 

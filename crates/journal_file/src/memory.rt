@@ -1,7 +1,7 @@
 //! A file in memory. Each call is done at once, so a crash leaves what is there. It keeps each content that it had, so
 //! that its clauses can speak of all moments.
 ghost use Rattle.std.specs.Prelude.{◌≡◌, ◌⊎◌, ◌≤◌, ◌+◌, ◌-◌, ◌++◌, [], ◌∷◌, length, take, drop, replicate, IfOk, OnOk, OnErr};
-ghost use Rattle.std.proofs.Common.{inl};
+ghost use Rattle.std.proofs.Common.{inl, refl};
 ghost use Rattle.journal_file.specs.Laws.{bytes_alone};
 ghost use Rattle.journal_file.specs.Memory.{HadBeen, memory_bytes, memory_read, memory_file};
 
@@ -86,6 +86,8 @@ impl Device for Memory {
     ghost faults = { λ m. 0 };
 
     ghost counts_now = { λ m t c le now. inl now };
+
+    ghost leaves_seen = { λ m. refl };
 
     ghost only_now = { λ m c left. bytes_alone m.past.items m.bytes.items c left };
 

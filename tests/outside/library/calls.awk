@@ -34,11 +34,11 @@ function call(text, result, refusals,   name, count, list, i, parameters) {
   print result " " name "(" parameters "): " (refusals ? refusals : "none")
 }
 
-# of hlr.h
+# of hlr.h, which calls the places of an array that a page goes into its room
 /^ \* Refusals: / { listed = substr($0, 14) }
 /^[a-z0-9_]+ hlr_[a-z_]*\(/ { declared = ""; result = $1; in_header = 1 }
 in_header { gsub(/  +/, " "); declared = declared $0 }
-in_header && /;$/ { call(declared, result, listed); listed = ""; in_header = 0 }
+in_header && /;$/ { sub(/\*rows, size_t room/, "*rows, size_t rows_count", declared); call(declared, result, listed); listed = ""; in_header = 0 }
 
 # of the sources; all but hlr_open answer NOT_OPEN first
 function named(about,   count, words, i, refusals) {

@@ -1,6 +1,7 @@
-# What hlr.h has to agree with, as lines for layout.c: the layout of each struct that C is passed, each code, and how
-# many cells there are. Reads rows.rt, kept.rt, kept_part.rt, handle.rt, part.rt and codes.rt of crates/hlr_c/src, refusal.rt of
-# crates/tatp_rows/src and cells.rt of crates/tatp_actions/src, in this order.
+# What hlr.h has to agree with, as lines for layout.c: the layout of each struct that C is passed, each code, and the
+# constants. Reads rows.rt, kept.rt, kept_part.rt, handle.rt, part.rt and codes.rt of crates/hlr_c/src, refusal.rt and
+# ranges.rt of crates/tatp_rows/src, cells.rt of crates/tatp_actions/src, and region.rt and bounds.rt of
+# crates/part_table/src, in this order.
 #
 # The structs are `#[repr(C)]`, so they lie as C's: each field stands in the order of the source, at the next multiple
 # of its alignment, and the size is the next multiple of the greatest alignment. A ghost field has no place. What
@@ -11,6 +12,9 @@ BEGIN {
   structs = split("Hlr HlrPart HlrSubscriber HlrAccess HlrFacility HlrForwardingRow HlrAccessAsked HlrDestinationAsked HlrNumbers HlrRegion HlrRegions HlrBounds", list, " ")
   for (i in list) name[list[i]] = snake(list[i])
   name["HlrRegions"] = "hlr_region_list"
+  constants = split("LAST_SUBSCRIBER MAX_S_ID GREATEST_WIDTH MAX_WIDTH MOST_PARTS MAX_PARTS MOST_PIECES MAX_PIECES " \
+    "FIRST_AREA AREA_CELL FIRST_ZONE ZONE_CELL ZONES ZONES", list, " ") / 2
+  for (i = 1; i <= 2 * constants; i += 2) c_name[list[i]] = list[i + 1]
 }
 function snake(camel) { gsub(/[A-Z]/, "_&", camel); return tolower(substr(camel, 2)) }
 function next_multiple(at, of) { return int((at + of - 1) / of) * of }
@@ -53,6 +57,11 @@ struct && /^}/ {
   sub(/:/, "", $3)
   print "IS(" $3 ", " $NF + 0 ")"; numbers++
 }
+/^(pub )?const [A-Z_]+: u(8|32) = [0-9_]+;/ {
+  constant = $0; sub(/^(pub )?const /, "", constant); sub(/:.*/, "", constant)
+  number = $NF; gsub(/[_;]/, "", number)
+  if (constant in c_name) { print "IS(" c_name[constant] ", " number ")"; found++ }
+}
 # the program's own refusals, which no call for C answers
 /Refusal::(Thread|Syntax|Read|Write) => / { next }
 /Refusal::[A-Za-z]+ => [0-9]+,/ {
@@ -62,4 +71,5 @@ struct && /^}/ {
 END {
   if (laid != structs || sized != structs) unknown("layout of " structs " structs")
   if (numbers != 24) unknown("23 codes and the cells")
+  if (found != constants) unknown(constants " constants")
 }

@@ -163,9 +163,34 @@ static void memory(void) {
     expect(hlr_close(&handle) == HLR_DONE, "a register with refused lends is closed");
 }
 
+/* While a part is lent, a call that is refused without it is refused all the same, and any other is away, also if its
+ * number is taken. A post of no cell says whether the part is lent, and that is so until it is taken in. */
+static void refusals(void) {
+    hlr handle = HLR_CLOSED;
+    hlr_part owner = HLR_CLOSED;
+    hlr_region given = {0};
+    hlr_subscriber row = {.s_id = FIRST(0) + 1, .sub_nbr = FIRST(1), .msc_location = 1, .vlr_location = 1};
+    uint64_t posted = 7;
+    expect(hlr_open(PARTS, WIDTH, &handle) == HLR_DONE, "a register for refusals is opened");
+    for (int p = 0; p < 2; p++) expect(add(&handle, FIRST(p)) == HLR_DONE, "a row for refusals");
+    expect(hlr_post(&handle, 0, 0, &posted) == HLR_DONE && posted == 0, "a post of no cell");
+    expect(hlr_lend(&handle, 0, &owner) == HLR_DONE, "a part is lent for refusals");
+    expect(hlr_update_location(&handle, 999, 1) == HLR_NO_NUMBER, "a number that nobody has needs no part");
+    expect(hlr_update_location(&handle, FIRST(0), 0) == HLR_FIELD, "nor does a field out of its range");
+    expect(hlr_give(&handle, 0, HLR_HIGH, FIRST(1), &given) == HLR_OUT_OF_RANGE, "nor does a cut outside of a part");
+    expect(hlr_add_subscriber(&handle, &row) == HLR_AWAY, "a new row is away, although its number is taken");
+    expect(hlr_set_number(&handle, FIRST(0), FIRST(1)) == HLR_AWAY, "and so is a number that is taken");
+    expect(hlr_post(&handle, 0, 0, &posted) == HLR_AWAY, "a post of no cell of a lent part");
+    expect(hlr_home(&owner) == HLR_DONE && hlr_post(&handle, 0, 0, &posted) == HLR_AWAY, "a part that was sent home is lent");
+    expect(hlr_back(&handle, 0) == HLR_DONE && hlr_post(&handle, 0, 0, &posted) == HLR_DONE, "a part that is home again");
+    expect(hlr_add_subscriber(&handle, &row) == HLR_NUMBER_TAKEN, "the number is taken");
+    expect(hlr_close(&handle) == HLR_DONE, "a register for refusals is closed");
+}
+
 int main(void) {
     threads();
     orders();
     memory();
+    refusals();
     return wrong;
 }

@@ -5,8 +5,13 @@ three nodes.
 """
 import doctest
 import io
+import json
 import logging
+import os
+import re
+import subprocess
 import sys
+import threading
 
 import redis
 
@@ -18,6 +23,7 @@ from servers import Server, command_line, wait_for
 
 FULL = Subscriber(7, 77, bytes([1, 0] * 5), bytes(range(6, 16)), bytes(range(246, 256)), 3, 268435456)
 S_IDS = range(1, 701)
+EXAMPLES = os.path.join(os.path.dirname(__file__), "../../../examples/redis")
 
 
 def refused(what, wanted, call, *words):
@@ -142,6 +148,47 @@ def whole(client):
             check("a record that is refused", "line 2" in str(error), error)
 
 
+def watched(client, register):
+    """The script for prometheus-redis-exporter returns the counts, and each query of the dashboard finds some."""
+    with open(os.path.join(EXAMPLES, "counts.lua")) as file:
+        words = [_text(word) for word in client.eval(file.read(), 0)]
+    told = dict(zip(words[::2], words[1::2]))
+    counts = register.views()[0]
+    for kind, first, count in (("hours", 0, 24), ("areas", 24, 16), ("zones", 40, 32)):
+        same(f"{kind} for the exporter", [int(told[f"{register.key}:{kind}:{place}"]) for place in range(count)],
+             counts[first:first + count])
+    same("rows for the exporter", int(told[register.key + ":rows"]), sum(counts[40:]))
+    with open(os.path.join(EXAMPLES, "grafana.json")) as file:
+        queries = [target["expr"] for panel in json.load(file)["panels"] for target in panel["targets"]]
+    patterns = [pattern for query in queries for pattern in re.findall('redis_script_values{key=~"([^"]+)"}', query)]
+    same("queries of counts", len(patterns), 5)
+    for pattern in patterns:
+        check(f"the exporter has {pattern}", any(re.fullmatch(pattern, key) for key in told))
+
+
+def _text(word):
+    return word if isinstance(word, str) else word.decode()
+
+
+class OutOfMemoryError(redis.ResponseError):
+    """As newer versions of python3-redis have it."""
+
+
+class Newer:
+    """A client as newer versions of python3-redis make it: maps over RESP3, and OOM as an exception without the code."""
+
+    def execute_command(self, name, *_):
+        if name == "HLR.GAD":
+            return {"data1": 1, "data2": 2, "data3": "ABC", "data4": "ABCDE"}
+        raise OutOfMemoryError("no memory was left")
+
+
+def newer():
+    register = hlr.remote.Register(Newer(), "hlr")
+    same("a map over RESP3", register.access_data(7, 3), Access(7, 3, 1, 2, "ABC", "ABCDE"))
+    refused("no memory, by a newer client", hlr.Memory, register.add_subscriber, FULL)
+
+
 def one_server(module):
     server = Server("one", module)
     for decode in (False, True):
@@ -155,6 +202,7 @@ def one_server(module):
         refusals(register, client)
         memory(server, register)
         counts(register)
+        watched(client, register)
         writes(register)
         whole(client)
         client.close()
@@ -162,6 +210,33 @@ def one_server(module):
 
 def is_whole(nodes):
     return all("cluster_state:ok" in one("CLUSTER", "INFO") for node in nodes for one in [node.connection()])
+
+
+def moved_alone(cluster, nodes):
+    """The script of the examples moves one register to each node in turn, while it is read."""
+    register, end = cluster.registers()[5], threading.Event()
+    wanted, wrong = list(register.rows()), []
+
+    def read():
+        while not end.is_set():
+            found = list(register.rows())
+            if found != wanted:
+                wrong.append(found)
+
+    reader = threading.Thread(target=read, daemon=True)
+    reader.start()
+    for node in (*nodes, nodes[0]):
+        place = f"127.0.0.1:{node.port}"
+        done = subprocess.run([os.path.join(EXAMPLES, "move.sh"), register.key, place], stdout=subprocess.PIPE,
+                              stderr=subprocess.STDOUT, text=True)
+        told = done.stdout.startswith(f"{register.key} is at {place}, with hash slot ")
+        is_there = done.stdout == f"move.sh: {register.key} is there already\n"
+        check(f"move.sh to {node.name}", told if done.returncode == 0 else is_there, done.stdout)
+        with node.connection() as one:
+            same("the register is there", one("EXISTS", register.key), 1)
+    end.set()
+    reader.join()
+    same("what was read meanwhile", wrong[:1], [])
 
 
 def in_cluster(module):
@@ -188,6 +263,7 @@ def in_cluster(module):
                  "--cluster-slots", "420", "--cluster-yes")
     with nodes[0].connection() as one:
         same("what is left of seven registers", one("DBSIZE"), 4)
+    moved_alone(cluster, nodes)
     for number in numbers:
         cluster.update_location(number, 268435456 * 3)
     same("areas", cluster.areas(), [0, 0, 0, len(numbers)] + [0] * 12)
@@ -208,6 +284,7 @@ def in_cluster(module):
 def main():
     failed, tried = doctest.testmod(hlr.remote)
     same("doctests", (failed, tried > 1), (0, True))
+    newer()
     one_server(sys.argv[1])
     in_cluster(sys.argv[1])
     ended()

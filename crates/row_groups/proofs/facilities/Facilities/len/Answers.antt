@@ -1,0 +1,10 @@
+use Rattle.row_groups.proofs.Common.{◌∙◌, sym, facility_row}
+use Rattle.row_groups.proofs.FilledLemmas.{length-filled}
+use Rattle.row_groups.proofs.FacilityLemmas.{facility_rules}
+use Rattle.row_groups.proofs.facilities.Facilities.len.Goals as goal
+
+pub returns-clause-value : goal.returns-clause-value
+returns-clause-value c = rw (← c.self.view_is) (c.count_taken.ensures ∙ sym (length-filled facility_row 1 c.self.inside.places))
+
+pub returns-clause-rules : goal.returns-clause-rules
+returns-clause-rules c = rw (← c.self.view_is) (facility_rules c.self.inside.places c.self.invariant)

@@ -1,0 +1,66 @@
+-- Groups of rows: the rows of one subscriber, or of one facility, in the order of their keys. A group doesn't keep to
+-- whom it belongs, so the fields that all of its rows share are 0 in it.
+use Rattle.std.specs.Prelude.{◌≡◌, ℕ, ◌≤◌, ◌==◌, ◌&&◌, nat_le, nat_lt, Bool, false, List, Result, Ok, Err, Option, None, Some, IsSome, IsTrue}
+use Rattle.std.specs.List.{AllByRecursion}
+use Rattle.tatp_rows.specs.Ordered.{IsOrderedBy, row_at, with_row}
+use Rattle.tatp_rows.specs.Rows.{AccessInfoRow, SpecialFacilityRow, CallForwardingRow, is_start_time}
+use Rattle.tatp_rows.specs.declared.refusal.Refusal.{Refusal}
+use Rattle.tatp_rows.specs.declared.refusal.Refusal.TheVariants.{Exists}
+
+-- the key of an Access_Info row among those of its subscriber
+abbrev pub access_type : AccessInfoRow → ℕ
+access_type row = row.ai_type
+
+-- the row as one of a subscriber; 0 stands for none
+abbrev pub access_with : ℕ → AccessInfoRow → AccessInfoRow
+access_with s_id row = record row { s_id = s_id }
+
+-- the rows of a group: at most one for each type, with no subscriber
+pub record AreAccesses (rows : List AccessInfoRow) : Type 0 where
+  pub ordered : IsOrderedBy access_type rows
+  pub each : AllByRecursion (λ row. (row.s_id ≡ 0) × (1 ≤ row.ai_type) × (row.ai_type ≤ 4)) rows
+
+-- the key of a Special_Facility row among those of its subscriber
+abbrev pub facility_type : SpecialFacilityRow → ℕ
+facility_type row = row.sf_type
+
+-- the row as one of a subscriber; 0 stands for none
+abbrev pub facility_with : ℕ → SpecialFacilityRow → SpecialFacilityRow
+facility_with s_id row = record row { s_id = s_id }
+
+-- the rows of a group: at most one for each type, with no subscriber
+pub record AreFacilities (rows : List SpecialFacilityRow) : Type 0 where
+  pub ordered : IsOrderedBy facility_type rows
+  pub each : AllByRecursion (λ row. (row.s_id ≡ 0) × (1 ≤ row.sf_type) × (row.sf_type ≤ 4)) rows
+
+-- a facility was found and is active
+abbrev pub is_found_active : Option SpecialFacilityRow → Bool
+is_found_active None = false
+is_found_active (Some row) = row.is_active == 1
+
+-- the key of a Call_Forwarding row among those of its facility
+abbrev pub forwarding_start : CallForwardingRow → ℕ
+forwarding_start row = row.start_time
+
+-- the row as one of a facility; zeros stand for none
+abbrev pub forwarding_with : ℕ → ℕ → CallForwardingRow → CallForwardingRow
+forwarding_with s_id sf_type row = record row { s_id = s_id; sf_type = sf_type }
+
+-- the rows of a group: at most one for each start time, with no facility
+pub record AreForwardings (rows : List CallForwardingRow) : Type 0 where
+  pub ordered : IsOrderedBy forwarding_start rows
+  pub each : AllByRecursion (λ row. (row.s_id ≡ 0) × (row.sf_type ≡ 0) × IsTrue (is_start_time row.start_time)) rows
+
+-- a forwarding starts by one hour, and ends after another
+abbrev pub is_in_time : ℕ → ℕ → CallForwardingRow → Bool
+is_in_time start_time end_time row = nat_le row.start_time start_time && nat_lt end_time row.end_time
+
+-- the hour at which a forwarding that was found ends, or 0 if none was
+abbrev pub end_of : Option CallForwardingRow → ℕ
+end_of None = 0
+end_of (Some row) = row.end_time
+
+-- a row is put among others, or is refused because there is one with its key
+abbrev pub IsPut : {X : Type 0} → (X → ℕ) → X → List X → List X → Result (Unit {0}) Refusal → Type 0
+IsPut key row before after (Ok u) = (row_at key (key row) before ≡ None) × (after ≡ with_row key row before)
+IsPut key row before after (Err why) = (why ≡ Exists) × IsSome (row_at key (key row) before) × (after ≡ before)

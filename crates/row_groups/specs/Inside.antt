@@ -1,0 +1,4 @@
+pub mod AccessPlaces
+pub mod FacilityPlaces
+pub mod ForwardingPlaces
+pub mod Places

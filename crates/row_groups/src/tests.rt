@@ -1,0 +1,156 @@
+//! What no clause says: that each call can succeed. Groups with every pattern of places, put in by several orders, are
+//! compared with plain lists of rows in the order of their keys.
+use super::*;
+use arrayvec::ArrayVec;
+use std::process::Abort;
+use std::test::*;
+use tatp_rows::{Access, Facility, Forwarding, Letters, Number, Refusal};
+
+const S_ID: u32 = 7;
+
+/// The types, each with its bit in a pattern, in three orders.
+const ORDERS: [[(u8, u8); 4]; 3] = [
+    [(1, 1), (2, 2), (3, 4), (4, 8)],
+    [(4, 8), (3, 4), (2, 2), (1, 1)],
+    [(3, 4), (1, 1), (4, 8), (2, 2)],
+];
+
+/// The start times, each with its bit in a pattern, in three orders.
+const HOURS: [[(u8, u8); 3]; 3] = [
+    [(0, 1), (8, 2), (16, 4)],
+    [(16, 4), (8, 2), (0, 1)],
+    [(8, 2), (16, 4), (0, 1)],
+];
+
+/// A row whose fields tell its type, and which is marked or not.
+fn access(ai_type: u8, marked: bool) -> Result<Access, Refusal> {
+    let letter = 65 + ai_type % 26;
+    Access::try_new(
+        u64::from(S_ID),
+        u64::from(ai_type),
+        ai_type,
+        u8::from(marked),
+        Letters::try_new([letter; 3])?,
+        Letters::try_new([letter; 5])?,
+    )
+}
+
+fn facility(sf_type: u8, marked: bool) -> Result<Facility, Refusal> {
+    let letter = 65 + sf_type % 26;
+    Facility::try_new(
+        u64::from(S_ID),
+        u64::from(sf_type),
+        u64::from(marked),
+        sf_type,
+        255,
+        Letters::try_new([letter; 5])?,
+    )
+}
+
+fn forwarding(sf_type: u8, start_time: u8, marked: bool) -> Result<Forwarding, Refusal> {
+    let number = if marked { 999_999_999_999_999 } else { 0 };
+    Forwarding::try_new(
+        u64::from(S_ID),
+        u64::from(sf_type),
+        u64::from(start_time),
+        if marked {
+            24
+        } else {
+            1 + u64::from(start_time % 24)
+        },
+        Number::try_new(number)?,
+    )
+}
+
+/// The rows of the types in a pattern, from a type on, of which some are marked.
+fn plain_access(pattern: u8, marked: u8, from: u8) -> Result<ArrayVec<Access, 4>, Refusal> {
+    let mut rows = ArrayVec::new();
+    for (ai_type, bit) in ORDERS[0] {
+        if pattern & bit != 0 && from <= ai_type {
+            let _ = rows.try_push(access(ai_type, marked & bit != 0)?);
+        }
+    }
+    Ok(rows)
+}
+
+fn plain_facilities(pattern: u8, marked: u8, from: u8) -> Result<ArrayVec<Facility, 4>, Refusal> {
+    let mut rows = ArrayVec::new();
+    for (sf_type, bit) in ORDERS[0] {
+        if pattern & bit != 0 && from <= sf_type {
+            let _ = rows.try_push(facility(sf_type, marked & bit != 0)?);
+        }
+    }
+    Ok(rows)
+}
+
+fn plain_forwardings(
+    sf_type: u8,
+    pattern: u8,
+    marked: u8,
+    from: u8,
+) -> Result<ArrayVec<Forwarding, 3>, Refusal> {
+    let mut rows = ArrayVec::new();
+    for (start_time, bit) in HOURS[0] {
+        if pattern & bit != 0 && from <= start_time {
+            let _ = rows.try_push(forwarding(sf_type, start_time, marked & bit != 0)?);
+        }
+    }
+    Ok(rows)
+}
+
+/// Whether a group has the rows of a pattern, by each of the calls that read.
+fn has_access(group: &Accesses, pattern: u8, marked: u8) -> Result<bool, Refusal> {
+    let mut same = group.len() == plain_access(pattern, marked, 0)?.len();
+    for from in 0..7_u8 {
+        let rows = plain_access(pattern, marked, from)?;
+        same &= group.rows_from(S_ID, from).as_slice() == rows.as_slice();
+        let found = rows
+            .as_slice()
+            .first()
+            .copied()
+            .filter(|row| row.ai_type() == from);
+        same &= group.get(S_ID, from) == found;
+    }
+    Ok(same)
+}
+
+/// Whether a group of the types in a pattern, which come in an order, is right before and after each change.
+fn is_access_right(order: &[(u8, u8); 4], pattern: u8) -> Result<bool, Refusal> {
+    let mut group = Accesses::default();
+    for (ai_type, bit) in *order {
+        if pattern & bit != 0 {
+            group.insert(&access(ai_type, false)?)?;
+        }
+    }
+    let mut right = has_access(&group, pattern, 0)?;
+    for (ai_type, bit) in *order {
+        let (row, other) = (access(ai_type, false)?, access(ai_type, true)?);
+        let there = pattern & bit != 0;
+        let old = if there { Some(row) } else { None };
+        let mut changed = group;
+        right &= changed.insert(&other).is_ok() != there;
+        right &= has_access(&changed, pattern | bit, bit & !pattern)?;
+        let mut changed = group;
+        right &= changed.replace(&other) == old;
+        right &= has_access(&changed, pattern, bit & pattern)?;
+        let mut changed = group;
+        right &= changed.remove(S_ID, ai_type) == old;
+        right &= has_access(&changed, pattern & !bit, 0)?;
+        right &= has_access(&Accesses::of(&other), bit, bit)?;
+    }
+    Ok(right)
+}
+
+#[test]
+fn patterns_of_access(rt: HostRuntime) -> Result<(), Fail> {
+    let mut wrong = 0_u8;
+    for order in &ORDERS {
+        for pattern in 0..16_u8 {
+            if !is_access_right(order, pattern)? {
+                wrong = wrong.saturating_add(1);
+            }
+        }
+    }
+    assert_eq!(rt; wrong, 0);
+    Ok(())
+}
