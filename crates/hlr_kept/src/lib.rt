@@ -5,15 +5,17 @@
 //! that it has answered: after a crash at any moment, its journal stands for the rows after the first so many of the
 //! events, with every event among them whose reply was handed out.
 //!
-//! The crate has definitions, laws, and the calls that write a journal. The register over them is still to be written:
-//! it applies an event, puts its line behind the others with `edit_lines::push_line`, and lets the replies go once
+//! The crate has definitions, laws, and the calls that write a journal and do its lines again. A register over them
+//! applies an event, puts its line behind the others with `edit_lines::push_line`, and lets the replies go once
 //! [`write`] returned `Ok`.
 #![tactic(auto)]
 
 mod laws;
+mod restoring;
 mod writing;
 
 pub use laws::{
     applied_is_ahead, crashes_leave_runs, fronts_are_runs, redone_is_right, written_is_kept,
 };
+pub use restoring::{redo, tells_done};
 pub use writing::{begin, write};
