@@ -1,0 +1,5 @@
+pub mod BeginLemmas
+pub mod EventLemmas
+pub mod GroupLemmas
+pub mod KeptLemmas
+pub mod RunLemmas

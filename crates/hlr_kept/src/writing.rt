@@ -1,0 +1,55 @@
+//! Writes the lines of events that are under way.
+ghost use Rattle.std.specs.Prelude.{◌≡◌, List, OnOk, Some};
+ghost use Rattle.journal_file.specs.Device.{LeavesOnly, Only};
+ghost use Rattle.journal.specs.Lines.{HasFence};
+ghost use Rattle.journal.specs.Tape.{AreEnds};
+ghost use Rattle.hlr_owners.specs.Owners.{OwnersState, store_in};
+ghost use Rattle.hlr_owners.specs.Store.{Store};
+ghost use Rattle.hlr_core.specs.declared.event.Event.{Event};
+ghost use Rattle.hlr_core.specs.declared.event.Reply.{Reply};
+ghost use Rattle.hlr_kept.specs.Rows.{book_of};
+ghost use Rattle.hlr_kept.specs.Runs.{IsAhead, IsOnDisk, StandsAfterSome};
+
+use edit_lines::push_first_line;
+use journal::{Device, Ends, JournalFault, Tape};
+use std::alloc::Global;
+
+/// Makes a file that was read ready to be written: takes away what a crash left behind its last whole line, and writes
+/// the first line if there is none. A crash at any moment of the call leaves a file that stands for the same rows.
+/// Gives up with `Memory`, and as `Tape::recover` and `Tape::commit` do.
+pub fn begin<D: Device>(alloc: Global, tape: &mut Tape<D>, ends: Ends) -> Result<(), JournalFault>
+    requires ends { AreEnds (D.seen tape.old.device) ends }
+    requires disk { Only (D.seen tape.old.device) (D.may_leave tape.old.device) }
+    ensures stored { OnOk result ((stored : Store) → book_of (D.seen tape.old.device) ≡ Some stored.book
+        → IsOnDisk D.seen D.may_leave stored tape.new) }
+    ensures any_moment { HasFence (D.seen tape.old.device) → LeavesOnly D.moment D.left_since tape.old.device tape.new.device
+        (λ c. HasFence c × (book_of c ≡ book_of (D.seen tape.old.device))) }
+{
+    tape.recover(ends)?;
+    if ends.whole > 0 {
+        return Ok(());
+    }
+    let mut first = Vec::new(alloc);
+    push_first_line(&mut first)?;
+    tape.commit(&first)?;
+    Ok(())
+}
+
+/// Writes the lines of the events that are under way, and syncs. From an `Ok` on, the file stands for the rows of the
+/// register, so that the replies to these events may be handed out. A crash at any moment of the call leaves a file that
+/// stands for the rows after the first so many of them. Gives up as `Tape::commit` does, and then the file is to be
+/// opened again.
+pub fn write<D: Device>(tape: &mut Tape<D>, group: &[u8]) -> Result<(), JournalFault>
+    requires under_way { (stored : Store) × (events : List Event) × (register : OwnersState) × (held : List Reply)
+        × IsOnDisk D.seen D.may_leave stored tape.old × IsAhead stored events register held group.now }
+    ensures stored { OnOk result ((stored : Store) (events : List Event) (register : OwnersState) (held : List Reply)
+        → IsOnDisk D.seen D.may_leave stored tape.old → IsAhead stored events register held group.now
+        → IsOnDisk D.seen D.may_leave (store_in register) tape.new) }
+    ensures any_moment { (stored : Store) (events : List Event) (register : OwnersState) (held : List Reply)
+        → IsOnDisk D.seen D.may_leave stored tape.old → IsAhead stored events register held group.now
+        → LeavesOnly D.moment D.left_since tape.old.device tape.new.device
+        (λ c. HasFence c × StandsAfterSome events held stored c) }
+{
+    tape.commit(group)?;
+    Ok(())
+}
