@@ -7,7 +7,6 @@ use crate::disk::{Place, write_zeros};
 use crate::{Disk, JournalFault, UnreadDisk};
 use std::fs::{self, File, OpenOptions, TryLockError};
 use std::io::{self, ErrorKind};
-use std::os::fd::AsRawFd;
 use std::os::unix::fs::MetadataExt;
 use std::path::PathBuf;
 
@@ -32,20 +31,9 @@ pub fn open(runtime: &HostRuntime, path: &str) -> Result<UnreadDisk, JournalFaul
     let place = place_of(runtime, find_or_make(runtime, path)?)?;
     let file = open_locked(&place)?;
     let _ = fs::remove_file(runtime, next_path(&place)?.as_str());
-    settle(&file)?;
+    file.sync_all()?;
     place.folder.sync_all()?;
     Ok(UnreadDisk::new(file, place))
-}
-
-/// Syncs a file, and has the system forget its copies of the file's pages, so that what is read next is what the disk
-/// has. After a failed sync of an earlier process, the two may differ.
-fn settle(file: &File) -> io::Result<()> {
-    file.sync_all()?;
-    let status = libc::posix_fadvise(file.as_raw_fd(), 0, 0, libc::POSIX_FADV_DONTNEED);
-    if status != 0 {
-        return Err(io::Error::from_raw_os_error(status));
-    }
-    Ok(())
 }
 
 /// Makes a file of zeros in the folder of another one, under its name with `.next` behind it, so that it can take the
