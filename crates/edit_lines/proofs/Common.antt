@@ -9,7 +9,7 @@ pub use Rattle.std.proofs.lemmas.List.Sums.{sum_by-cons}
 pub use Rattle.std.specs.List.{AllByRecursion, EachIndex, list_all, sum}
 pub use Rattle.std.specs.Prelude.{IfOk, if◌then◌else◌, ◌||◌, nat_eq, nat_le, nat_lt, ◌&&◌, ◌==◌}
 pub use Rattle.arrayvec.specs.ArrayVec.{array_vec_len}
-pub use Rattle.tatp_rows.proofs.PackLemmas.{IsUnpackedTo, unpack_all, unpack_more, unpack_none}
+pub use Rattle.tatp_rows.proofs.PackLemmas.{IsUnpackedTo, packed_below, unpacked_back, unpack_all, unpack_more, unpack_none}
 pub use Rattle.tatp_rows.proofs.RowLemmas.{between_each, between_is, both, both_from, length-are_between, number_below, subscriber_ranges}
 pub use Rattle.tatp_rows.specs.Number.{is_number}
 pub use Rattle.tatp_rows.specs.Rows.{AccessInfoRow, SpecialFacilityRow, SubscriberRow, are_between, is_between}

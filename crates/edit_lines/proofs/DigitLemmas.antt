@@ -1,9 +1,8 @@
 -- Numbers as digits, and lists of numbers that are packed into one.
-use Rattle.edit_lines.proofs.Common.{◌≡◌, refl, sym, ap, ◌∙◌, ℕ, zero, suc, ◌+◌, ◌-◌, ◌*◌, ◌/◌, ◌%◌, ◌^◌, ◌<◌, ◌≤◌, List, [], ◌∷◌, ◌++◌, length, get_or, drop, append_assoc, append-nil, length-drop, get_or-drop, drop_all, drop_more, arith, mul_comm, pow-suc, pow-zero, pow-le-pow_right, EachIndex}
+use Rattle.edit_lines.proofs.Common.{◌≡◌, refl, sym, ap, ◌∙◌, ℕ, zero, suc, ◌+◌, ◌-◌, ◌*◌, ◌/◌, ◌%◌, ◌^◌, ◌<◌, ◌≤◌, List, [], ◌∷◌, ◌++◌, length, get_or, drop, append_assoc, append-nil, length-drop, get_or-drop, drop_all, drop_more, arith, mul_comm, pow-suc, pow-zero, pow-le-pow_right, EachIndex, packed_below}
 use Rattle.tatp_rows.specs.Packed.{packed}
 use Rattle.edit_lines.specs.Lines.{digits}
 use Rattle.edit_lines.specs.Reading.{number_of}
-use lib.Arith.{digits_lt}
 
 -- one digit in front of the rest
 pub digits_more : (count n : ℕ) → digits (suc count) n ≡ (128 + n % 128) ∷ digits count (n / 128)
@@ -58,16 +57,6 @@ number_room ds i n some inside few so =
     let size = length-drop i ds in
     let power = pow-le-pow_right {n = 128} (omega arith) {i = length (drop i ds)} {j = 7} (omega arith) in
     omega arith
-
--- numbers below a base make a number below a power of it
-pub packed_below : (base : ℕ) (ns : List ℕ) → EachIndex ns (λ k. get_or ns k 0 < base) → packed base ns < base ^ length ns
-unfolding packed
-packed_below base [] each = rw (pow-zero base) (omega arith)
-packed_below base (n ∷ ns) each =
-    let first = each 0 (omega arith) in
-    let rest = packed_below base ns (λ k within. each (suc k) (omega arith)) in
-    let turned : n + base * packed base ns ≡ packed base ns * base + n = rw (mul_comm base (packed base ns)) (omega arith) in
-    rw (turned, pow-suc base (length ns)) (digits_lt rest first)
 
 -- numbers are packed from the last to the first
 pub pack_none : (base : ℕ) (ns : List ℕ) → 0 ≡ packed base (drop (length ns) ns)

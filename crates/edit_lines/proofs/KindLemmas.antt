@@ -1,7 +1,9 @@
 -- The way from an event to its line and back, kind by kind.
 use Rattle.edit_lines.proofs.Common.{◌≡◌, refl, ap, ◌∙◌, ℕ, ◌^◌, ◌<◌, Bool, true, cond, ◌==◌, ◌&&◌, ◌||◌, nat_lt, List, [], ◌∷◌, ◌++◌, take, drop, append_assoc, append-nil, take-append-drop, arith, nat_tests, Result, Ok, both, between_is, number_below, subscriber_ranges, is_between, is_number, are_between, LAST_SUBSCRIBER, SubscriberRow, AccessInfoRow, SpecialFacilityRow}
 use Rattle.tatp_rows.specs.Packed.{packed}
-use Rattle.edit_lines.specs.Lines.{digits, line_of, has_line, is_typed, has_forwarding_key}
+use Rattle.tatp_actions.specs.Action.{is_typed}
+use Rattle.hlr_core.specs.Step.{has_forwarding_key}
+use Rattle.edit_lines.specs.Lines.{digits, line_of, has_line}
 use Rattle.edit_lines.specs.Reading.{if_has_line, fields_in, location_from, update_from, insert_from, delete_from, subscriber_from, access_from, facility_from, active_from, number_from, event_of}
 use Rattle.edit_lines.specs.declared.error.LineError.{LineError}
 use Rattle.hlr_core.specs.declared.event.Event.{Event}

@@ -1,32 +1,20 @@
 -- Lists of small numbers that are packed into a number and unpacked again.
-use Rattle.edit_lines.proofs.Common.{◌≡◌, refl, ap, ◌∙◌, ℕ, zero, suc, ◌+◌, ◌*◌, ◌/◌, ◌%◌, ◌^◌, ◌<◌, true, List, [], ◌∷◌, ◌++◌, length, get_or, take, drop, length-take, length-drop, get_or-take, get_or-drop, take_at, drop_at, arith, EachIndex, ◌==◌, list_all, both, between_each, length-are_between, are_between, is_between, add-mul-div_left, add-mul-mod_self_left, div-eq_of_lt, mod-eq_of_lt}
+use Rattle.edit_lines.proofs.Common.{◌≡◌, refl, ap, ◌∙◌, ℕ, zero, suc, ◌+◌, ◌*◌, ◌/◌, ◌%◌, ◌^◌, ◌<◌, true, List, [], ◌∷◌, ◌++◌, length, get_or, take, drop, length-take, length-drop, get_or-take, get_or-drop, take_at, drop_at, arith, EachIndex, ◌==◌, list_all, both, between_each, length-are_between, are_between, is_between, packed_below, unpacked_back}
 use Rattle.tatp_rows.specs.Packed.{packed, unpacked}
-use Rattle.edit_lines.proofs.DigitLemmas.{packed_below}
 
 pub length-unpacked : (base size n : ℕ) → length (unpacked base size n) ≡ size
 unfolding unpacked
 length-unpacked base zero n = refl
 length-unpacked base (suc size) n = ap suc (length-unpacked base size (n / base))
 
--- so many numbers below a base
+-- a list of this length, of numbers below a base
 pub record AreSmall (base size : ℕ) (ns : List ℕ) : Type 0 where
   pub long : length ns ≡ size
   pub each : EachIndex ns (λ k. get_or ns k 0 < base)
 
-unpacked_again : (base : ℕ) (ns : List ℕ) → EachIndex ns (λ k. get_or ns k 0 < base) → unpacked base (length ns) (packed base ns) ≡ ns
-unfolding packed unpacked
-unpacked_again base [] each = refl
-unpacked_again base (n ∷ ns) each =
-    let first = each 0 (omega arith) in
-    let rest = unpacked_again base ns (λ k within. each (suc k) (omega arith)) in
-    let some : 0 < base = omega arith in
-    let lowest : (n + base * packed base ns) % base ≡ n = add-mul-mod_self_left n base (packed base ns) ∙ mod-eq_of_lt first in
-    let others : (n + base * packed base ns) / base ≡ packed base ns = add-mul-div_left n (packed base ns) some ∙ ap (λ q. q + packed base ns) (div-eq_of_lt first) ∙ omega arith in
-    rw (lowest, others, rest) refl
-
 -- small numbers that were packed are unpacked
 pub unpacked-packed : (base size : ℕ) (ns : List ℕ) → AreSmall base size ns → unpacked base size (packed base ns) ≡ ns
-unpacked-packed base size ns small = rw small.long at (unpacked_again base ns small.each)
+unpacked-packed base size ns small = rw small.long at (unpacked_back base ns small.each)
 
 pub packed-small : (base size : ℕ) (ns : List ℕ) → AreSmall base size ns → packed base ns < base ^ size
 packed-small base size ns small = rw small.long at (packed_below base ns small.each)

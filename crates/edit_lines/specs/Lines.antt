@@ -2,8 +2,10 @@
 use Rattle.std.specs.Prelude.{ℕ, zero, suc, ◌+◌, ◌%◌, ◌/◌, ◌&&◌, Bool, true, false, List, [], ◌∷◌, ◌++◌, take, drop, codes}
 use Rattle.tatp_rows.specs.Number.{is_number}
 use Rattle.tatp_rows.specs.Packed.{packed}
-use Rattle.tatp_rows.specs.Rows.{is_between, is_start_time, subscriber_in_range, access_in_range, facility_in_range}
+use Rattle.tatp_rows.specs.Rows.{is_between, subscriber_in_range, access_in_range, facility_in_range}
 use Rattle.tatp_rows.specs.declared.ranges.TheConstants.{LAST_SUBSCRIBER}
+use Rattle.tatp_actions.specs.Action.{is_typed}
+use Rattle.hlr_core.specs.Step.{has_forwarding_key}
 use Rattle.hlr_core.specs.declared.event.Event.{Event}
 use Rattle.hlr_core.specs.declared.event.Event.TheVariants.{UpdateSubscriber, UpdateLocation, InsertForwarding, DeleteForwarding, AddSubscriber, AddAccess, AddFacility, SetActive, SetNumber}
 
@@ -36,14 +38,6 @@ line_of (AddFacility row) =
 line_of (SetActive s_id sf_type is_active) = codes "O" ++ digits 4 s_id ++ digits 1 sf_type ++ digits 1 is_active
 line_of (SetNumber s_id sub_nbr) = codes "N" ++ digits 4 s_id ++ digits 8 sub_nbr
 line_of other = []
-
--- the s_id and the type of a row are in range
-abbrev pub is_typed : ℕ → ℕ → Bool
-is_typed s_id kind = is_between 1 LAST_SUBSCRIBER s_id && is_between 1 4 kind
-
--- the type and the start time of a forwarding are in range
-abbrev pub has_forwarding_key : ℕ → ℕ → Bool
-has_forwarding_key sf_type start_time = is_between 1 4 sf_type && is_start_time start_time
 
 -- an event that changes rows, whose plain numbers are in range
 abbrev pub is_change : Event → Bool

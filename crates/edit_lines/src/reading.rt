@@ -1,6 +1,8 @@
 //! Lines of events, as they are read.
 ghost use Rattle.std.specs.Prelude.{◌≡◌, [], ◌∷◌, IfOk, OnErr, true};
-ghost use Rattle.edit_lines.specs.Lines.{line_of, has_line, is_typed, has_forwarding_key};
+ghost use Rattle.tatp_actions.specs.Action.{is_typed};
+ghost use Rattle.hlr_core.specs.Step.{has_forwarding_key};
+ghost use Rattle.edit_lines.specs.Lines.{line_of, has_line};
 ghost use Rattle.edit_lines.specs.Reading.{fields_in, location_from, update_from, insert_from, delete_from, subscriber_from, access_from, facility_from, active_from, number_from, event_of};
 
 use crate::digits::{check, join, number_at, unpack};

@@ -16,12 +16,12 @@ none_loose : (p : Place) (pieces : List ℕ) → piece_number p ++ pieces ≡ []
 none_loose (Part q) pieces none = (refl, none)
 none_loose (Piece n) pieces none = absurd cc
 
--- so nobody lies in one
-home : (s : ℕ) (regions : List Region) → pieces_of regions ≡ [] → is_loose s regions ≡ false
-home s [] none = refl
-home s (region ∷ regions) none =
+-- where no piece is loose, no subscriber lies in one
+pub nobody_loose : (s : ℕ) (regions : List Region) → pieces_of regions ≡ [] → is_loose s regions ≡ false
+nobody_loose s [] none = refl
+nobody_loose s (region ∷ regions) none =
     let both = none_loose region.place (pieces_of regions) none in
-    let rest = home s regions both.1 in
+    let rest = nobody_loose s regions both.1 in
     by_test (lies_in s region) (λ e. rw e both.0) (λ e. rw e rest)
 
 -- a step with a lasting reply is one where no piece is loose
@@ -37,7 +37,7 @@ module _ (base before after : Store) (reply : Reply) (none : pieces_of base.regi
       → IsAskedStep wanted (with_book base before.book) reply (with_book base after.book)
   asked_at_home (Err why) step = (step.0, ap (λ (s : Store). with_book base s.book) step.1)
   asked_at_home (Ok act) step =
-      let here : is_loose (s_id_of act) base.regions ≡ false = home (s_id_of act) base.regions none in
+      let here : is_loose (s_id_of act) base.regions ≡ false = nobody_loose (s_id_of act) base.regions none in
       rw here (owned_at_home (is_loose (s_id_of act) before.regions) act step)
 
 -- a reply that does not last is a refusal

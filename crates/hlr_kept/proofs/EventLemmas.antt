@@ -1,19 +1,15 @@
 -- What a right step says of the book: an event that is answered Done changes it as its line says, and any other leaves it.
-use Rattle.std.proofs.Common.{◌≡◌, ◌∙◌, refl, sym, ap, ℕ, Bool, true, false, List, [], ◌∷◌, ◌++◌, inl, inr, Some, None, Ok, Err}
+use Rattle.std.proofs.Common.{◌≡◌, ◌∙◌, refl, sym, ap, ℕ, Bool, true, false, [], ◌∷◌, inl, inr, Some, None, Ok, Err}
 use Rattle.std.specs.Prelude.{Result, ◌&&◌}
 use Rattle.tatp_rows.proofs.OrderedLemmas.{by_test}
 use Rattle.tatp_rows.specs.declared.refusal.Refusal.{Refusal}
-use Rattle.part_table.specs.Region.{lies_in, piece_number}
 use Rattle.part_table.specs.Regions.{pieces_of}
-use Rattle.part_table.specs.declared.region.Place.{Place}
-use Rattle.part_table.specs.declared.region.Place.TheVariants.{Part, Piece}
-use Rattle.part_table.specs.declared.region.Region.{Region}
 use Rattle.tatp_actions.specs.Action.{effect, s_id_of}
 use Rattle.tatp_actions.specs.Book.{Book}
 use Rattle.tatp_actions.specs.declared.action.Action.{Action}
 use Rattle.tatp_actions.specs.declared.action.RowReply.{RowReply}
 use Rattle.tatp_actions.specs.declared.action.RowReply.TheVariants as row_reply
-use Rattle.hlr_owners.specs.Answered.{is_loose, is_loose_place}
+use Rattle.hlr_owners.specs.Answered.{is_loose}
 use Rattle.hlr_owners.specs.Store.{Store}
 use Rattle.hlr_core.specs.Kept.{is_on_rows}
 use Rattle.hlr_core.specs.Step.{IsStep, IsAskedStep, IsOwnedStep, action_for, given_number, is_done, reply_of, takes_number, whole_effect}
@@ -23,26 +19,13 @@ use Rattle.hlr_core.specs.declared.event.Reply.{Reply}
 use Rattle.hlr_core.specs.declared.event.Reply.TheVariants as reply
 use Rattle.hlr_core.specs.declared.order.Answer.TheVariants as answer
 use Rattle.hlr_core.specs.declared.order.Order.TheVariants as order
-use Rattle.hlr_core.proofs.AtHomeLemmas.{same_at_home}
+use Rattle.hlr_core.proofs.AtHomeLemmas.{nobody_loose, same_at_home}
 use Rattle.hlr_core.proofs.PairsLemmas.{effect_shaped}
 use Rattle.hlr_core.proofs.RouteLemmas.{row_step}
 use Rattle.edit_lines.specs.Lines.{is_change}
 use Rattle.edit_lines.proofs.DoneLemmas.{step_is_change}
 use Rattle.hlr_kept.specs.Runs.{tells_done, wants_memory}
 use Rattle.hlr_kept.specs.Rows.{book_after_action, book_after_event, done_book}
-
--- where no piece is loose, neither the first region nor any other is one
-none_loose : (p : Place) (pieces : List ℕ) → piece_number p ++ pieces ≡ [] → (is_loose_place (Some p) ≡ false) × (pieces ≡ [])
-none_loose (Part q) pieces none = (refl, none)
-none_loose (Piece n) pieces none = absurd cc
-
--- so nobody lies in one
-home : (s : ℕ) (regions : List Region) → pieces_of regions ≡ [] → is_loose s regions ≡ false
-home s [] none = refl
-home s (region ∷ regions) none =
-    let both = none_loose region.place (pieces_of regions) none in
-    let rest = home s regions both.1 in
-    by_test (lies_in s region) (λ e. rw e both.0) (λ e. rw e rest)
 
 -- a reply says Done if the rows do
 pub tells_rows : (rows : RowReply) → tells_done (reply_of rows) ≡ is_done rows
@@ -120,7 +103,7 @@ module _ (before after : Store) (told : Reply) where
 
     asked_not : (wanted : Result Action Refusal) → IsAskedStep wanted before told after → book_after_action wanted before.book ≡ None
     asked_not (Err why) step = refl
-    asked_not (Ok act) step = owned_not (is_loose (s_id_of act) before.regions) act (home (s_id_of act) before.regions none) step
+    asked_not (Ok act) step = owned_not (is_loose (s_id_of act) before.regions) act (nobody_loose (s_id_of act) before.regions none) step
 
 -- an event that is answered Done is on rows
 done_on_rows : (event : Event) → is_change event ≡ true → is_on_rows event ≡ true

@@ -29,7 +29,7 @@ pub struct Tape<D: Device> {
     pub device: D,
     /// Where the text ends.
     pub end: usize,
-    /// So many bytes of it are on the disk.
+    /// How many bytes of it are on the disk.
     pub synced: usize,
     /// The length of the file.
     pub len: usize,
@@ -104,7 +104,8 @@ impl<D: Device> Tape<D> {
         Ok(())
     }
 
-    /// Sees to it that so many bytes fit in front of the last 0.
+    /// Makes room for this many bytes in front of the last 0. If there is too little, it puts more zeros behind the text
+    /// and syncs.
     fn make_room(&mut self, more: usize) -> Result<(), JournalFault>
         requires is_open { IsOpen D.seen D.may_leave self.old }
 
@@ -126,28 +127,6 @@ impl<D: Device> Tape<D> {
         if more < self.len - self.end {
             return Ok(());
         }
-        self.widen(more)
-    }
-
-    /// Puts more zeros behind the text, and syncs.
-    fn widen(&mut self, more: usize) -> Result<(), JournalFault>
-        requires is_open { IsOpen D.seen D.may_leave self.old }
-
-        ensures is_open { OnOk result (IsOpen D.seen D.may_leave self.new) }
-        ensures same { OnOk result (text (D.seen self.new.device) ≡ text (D.seen self.old.device)) }
-        ensures end { OnOk result (self.new.end ≡ self.old.end) }
-        ensures kept { OnOk result (self.old.synced ≤ self.new.synced) }
-        ensures room { OnOk result (more < self.new.len - self.new.end) }
-        ensures fits { OnOk result (self.new.end + more < 2 ^ 64) }
-
-        ensures any_moment { LeavesOnly D.moment D.left_since self.old.device self.new.device
-            (IsBetween (kept D.seen self.old) (text (D.seen self.old.device))) }
-
-        ensures failed { IsErrOf result Failed → D.faults self.old.device < D.faults self.new.device }
-        ensures full { IsErrOf result Full → 2 ^ 61 ≤ self.old.len + more }
-        ensures journal { IsErrOf result NoJournal → ⊥ }
-        ensures cause { D.faults self.old.device ≤ D.faults self.new.device }
-    {
         if self.len > MAX_LEN || more > MAX_LEN {
             return Err(JournalFault::Full);
         }

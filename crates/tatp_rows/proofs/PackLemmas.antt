@@ -5,7 +5,7 @@ use Rattle.tatp_rows.proofs.RowLemmas.{between_each, both, length-are_between}
 use Rattle.tatp_rows.specs.Packed.{packed, unpacked}
 
 -- the digits of the number that digits make are these
-unpacked_back : (base : ℕ) (digits : List ℕ) → EachIndex digits (λ k. get_or digits k 0 < base) → unpacked base (length digits) (packed base digits) ≡ digits
+pub unpacked_back : (base : ℕ) (digits : List ℕ) → EachIndex digits (λ k. get_or digits k 0 < base) → unpacked base (length digits) (packed base digits) ≡ digits
 unfolding packed unpacked
 unpacked_back base [] each = refl
 unpacked_back base (digit ∷ digits) each =
@@ -17,7 +17,7 @@ unpacked_back base (digit ∷ digits) each =
     rw (lowest, others, rest) refl
 
 -- digits make a number below a power of their base
-packed_below : (base : ℕ) (digits : List ℕ) → EachIndex digits (λ k. get_or digits k 0 < base) → packed base digits < base ^ length digits
+pub packed_below : (base : ℕ) (digits : List ℕ) → EachIndex digits (λ k. get_or digits k 0 < base) → packed base digits < base ^ length digits
 unfolding packed
 packed_below base [] each = rw (pow-zero base) (omega arith)
 packed_below base (digit ∷ digits) each =
