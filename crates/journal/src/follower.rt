@@ -1,4 +1,4 @@
-//! Follows the bytes of a file while they are read.
+//! Finds the lines in the bytes of a file while they are read.
 ghost use Rattle.std.specs.Prelude.{◌≡◌, ◌≤◌, ◌<◌, ◌+◌, ◌^◌, ◌++◌, [], ◌∷◌, List, ℕ, false, length, OnOk};
 ghost use Rattle.journal.specs.Inside.{IsFollowed};
 
@@ -6,18 +6,18 @@ use crate::{Ends, Machine};
 use journal_file::JournalFault;
 use std::alloc::Global;
 
-/// Knows where the parts of the bytes end that were read so far.
+/// Keeps what has to be known of the bytes that were read so far: where their parts end, and the line that has begun.
 #[derive(Drop)]
 pub struct Follower {
     pub(crate) ends: Ends,
-    /// The bytes of the text behind its last line feed.
+    /// The line that has begun, which is the text behind the last line feed.
     line: Vec<u8>,
-    /// A 0 was read.
+    /// Whether a 0 was read, with which the text ends.
     is_over: bool,
 }
 
 impl Follower {
-    /// Has read nothing.
+    /// Begins in front of the first byte of a file.
     pub(crate) fn new(alloc: Global) -> Follower
         ensures ends { (result.ends.whole ≡ 0) × (result.ends.text ≡ 0) × (result.ends.len ≡ 0) }
         ensures line { result.line.items ≡ [] }
@@ -34,8 +34,8 @@ impl Follower {
         }
     }
 
-    /// Takes the next bytes, and does what each line says that they end. Gives up as the machine does, or with
-    /// `Memory`.
+    /// Takes the next bytes of the file, and hands each line whose line feed is among them to the machine. Gives up as
+    /// the machine does, or with `Memory`.
     pub(crate) fn follow<M: Machine>(
         &mut self,
         machine: &mut M,

@@ -18,7 +18,7 @@ const PAGE: usize = 1 << 16;
 
 static ZEROS: [u8; PAGE] = [0; PAGE];
 
-/// A name in a folder. A file that is renamed stays there once the folder is synced.
+/// The name of a file, and the folder that it stands in. A renaming is on the disk once the folder is synced.
 #[derive(Drop)]
 pub(crate) struct Place {
     pub runtime: HostRuntime,

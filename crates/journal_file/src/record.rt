@@ -1,4 +1,4 @@
-//! What a file was asked to do and what it answered: a list that only clauses read. It takes no memory.
+//! A list of the calls that a file has had, with their answers. Only clauses read it, so it takes no memory.
 ghost use Rattle.std.specs.Prelude.{◌≡◌, List, [], ◌∷◌, Bool};
 ghost use Rattle.std.specs.Borrow.{ftrue};
 ghost use Rattle.journal_file.specs.Calls.{Call, seen_after};
