@@ -56,8 +56,8 @@ impl Follower {
         Ok(())
     }
 
-    /// Takes the bytes up to the next 0 or line feed, with this one, or all bytes if there is none. Returns how many they
-    /// are. A line that lies whole in the bytes is handed to the machine where it lies. Gives up as `follow` does.
+    /// Takes the bytes up to the next 0 or line feed, with this one, or all bytes if there is none. Returns how many
+    /// they are. A line that lies whole in the bytes is handed to the machine where it lies. Gives up as `follow` does.
     fn take_line<M: Machine>(
         &mut self,
         machine: &mut M,

@@ -36,7 +36,8 @@ impl Record {
         Record {}
     }
 
-    /// Returns a list with one call more. The bytes of this call are those that a file has after the calls of `_content`.
+    /// Returns a list with one call more. The bytes of this call are those that a file has after the calls of
+    /// `_content`.
     pub(crate) fn with(_before: &Record, _step: &Step, _content: &Record) -> Record
         ensures { result.calls ≡ (_step.now, seen_after _content.now.calls) ∷ _before.now.calls }
     {
