@@ -5,6 +5,7 @@ ghost use Rattle.journal.specs.Inside.{IsFollowed, IsInner};
 
 use crate::{Ends, Machine};
 use journal_file::JournalFault;
+use memchr::memchr2;
 use std::alloc::Global;
 
 /// Keeps what has to be known of the bytes that were read so far: where their parts end, and the line that has begun.
@@ -165,9 +166,8 @@ fn inner(bytes: &[u8]) -> usize
     ensures within { result ≤ length bytes.now }
     ensures inner { AllByRecursion IsInner (take result bytes.now) }
 {
-    let mut n = 0;
-    while n < bytes.len() && bytes[n] != 0 && bytes[n] != b'\n' {
-        n += 1;
+    match memchr2(0, b'\n', bytes) {
+        Some(place) => place,
+        None => bytes.len(),
     }
-    n
 }
