@@ -228,8 +228,8 @@ fn push_event(lines: &mut Vec<u8>, event: &Event) -> Result<(), AllocError>
 }
 
 /// Appends the line of an event that changes rows, and a line feed. It appends nothing if the system refuses memory,
-/// which can't happen if the vector has room for `LONGEST` more bytes. The plain numbers of the event have to be in their
-/// ranges, as they are if a register answered `Done`.
+/// which can't happen if the vector has room for `LONGEST` more bytes. The plain numbers of the event have to be in
+/// their ranges, as they are if a register answered `Done`.
 pub fn push_line(lines: &mut Vec<u8>, event: &Event) -> Result<(), AllocError>
     requires { is_change event.now ≡ true }
     ensures ok { OnOk result (lines.new.items ≡ lines.old.items ++ (line_of event.now ++ 10 ∷ [])) }

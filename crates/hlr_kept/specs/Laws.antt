@@ -61,8 +61,8 @@ AppliedIsAhead =
     → (changed_rows one told ≡ true → is_writable one ≡ true)
     → IsAhead stored (orders ++ one ∷ []) after (answers ++ told ∷ []) (group ++ line_bytes one told)
 
--- where no piece is loose, an event that changes rows is answered Done exactly if the rows of its line are there, unless
--- it is refused for want of memory
+-- where no piece is loose, an event that changes rows is answered Done exactly if the rows of its line are there,
+-- unless it is refused for want of memory
 abbrev pub RedoneIsRight : Type 0
 RedoneIsRight =
     (event : Event) (before after : Store) (told : Reply)
@@ -70,8 +70,8 @@ RedoneIsRight =
     → (tells_done told ≡ true → book_after_event event before.book ≡ Some after.book)
     × (tells_done told ≡ false → wants_memory told ≡ false → book_after_event event before.book ≡ None)
 
--- A register has the rows after the first so many of some orders, in a right run from a store, and counts its cells over
--- these rows.
+-- A register has the rows after the first so many of some orders, in a right run from a store, and counts its cells
+-- over these rows.
 pub record IsAfterSome (orders : List Order) (before : Store) (register : OwnersState) : Type 0 where
   pub count : ℕ
   pub within : count ≤ length orders

@@ -17,7 +17,8 @@ pub record IsUnderWay {D : Type 0} (seen : D → List ℕ) (may_leave : D → Li
   pub disk : IsOnDisk seen may_leave stored now.tape
   pub ahead : IsAhead stored orders now.register answers now.group.items
 
--- A register with its journal may be called: all its parts are home, and orders are under way unless a write has failed.
+-- A register with its journal may be called: all its parts are home, and orders are under way unless a write has
+-- failed.
 pub record IsReady {D : Type 0} (seen : D → List ℕ) (may_leave : D → List ℕ → Type 0) (now : Journaled D) : Type 0 where
   pub home : AllHome now.register.owners
   pub under_way : now.fault ≡ None

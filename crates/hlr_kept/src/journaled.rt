@@ -21,9 +21,9 @@ use edit_lines::{LONGEST, push_line};
 use hlr_core::{Answer, Event, Order, Refusal, Register, Reply};
 use journal::{Device, JournalFault, Tape};
 
-/// Keeps a register in a journal. An answer may be handed out once a sync that comes after it has returned `Ok`, because
-/// from then on no crash takes it back. After a sync that gave up, each call that returns a `JournalFault` returns that
-/// one, until the file is opened again.
+/// Keeps a register in a journal. An answer may be handed out once a sync that comes after it has returned `Ok`,
+/// because from then on no crash takes it back. After a sync that gave up, each call that returns a `JournalFault`
+/// returns that one, until the file is opened again.
 #[derive(Drop)]
 pub struct Journaled<D: Device> {
     pub(crate) register: Register,

@@ -77,10 +77,10 @@ impl<D: Device> Kept<D> {
         Ok(std::mem::replace(&mut self.held, none))
     }
 
-    /// Carries orders out one after another, syncs once, and returns the answers in order. Answers that were held before
-    /// come first. A crash at any moment of the call leaves the rows after the first so many of the orders, and all
-    /// that was answered before is among them. Gives up as [`Kept::submit`] and [`Kept::sync`] do; after `Memory` the
-    /// answers to the first so many orders are held.
+    /// Carries orders out one after another, syncs once, and returns the answers in order. Answers that were held
+    /// before come first. A crash at any moment of the call leaves the rows after the first so many of the orders, and
+    /// all that was answered before is among them. Gives up as [`Kept::submit`] and [`Kept::sync`] do; after `Memory`
+    /// the answers to the first so many orders are held.
     pub fn serve(&mut self, orders: &[Order]) -> Result<Vec<Answer>, JournalFault>
         requires ready { IsReady D.seen D.may_leave self.old.journaled }
         ensures ready { IsReady D.seen D.may_leave self.new.journaled }

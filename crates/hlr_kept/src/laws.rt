@@ -14,8 +14,8 @@ pub fn written_is_kept()
     ensures { WrittenIsKept }
 {}
 
-/// States that a crash while lines are written leaves the rows after the first so many of the orders under way, with all
-/// orders before them.
+/// States that a crash while lines are written leaves the rows after the first so many of the orders under way, with
+/// all orders before them.
 pub fn crashes_leave_runs()
     ensures { CrashesLeaveRuns }
 {}
@@ -31,9 +31,9 @@ pub fn redone_is_right()
     ensures { RedoneIsRight }
 {}
 
-/// States that a register which was opened from what a crash has left, at any moment of a call that serves orders, has the
-/// rows after the first so many of them, with all that was answered before. For each cell, what is published and what
-/// is unposted add up to the count over these rows.
+/// States that a register which was opened from what a crash has left, at any moment of a call that serves orders, has
+/// the rows after the first so many of them, with all that was answered before. For each cell, what is published and
+/// what is unposted add up to the count over these rows.
 pub fn loses_nothing(register: &Register)
     requires { AllHome register.now.owners }
     ensures { LosesNothing register.now }

@@ -1,9 +1,9 @@
 //! A register that survives a crash: its rows are kept in a journal, and it comes back from there.
 //!
-//! Each event that changes rows and is answered `Done` is written as its line, in order, and an answer may be handed out
-//! once a sync has put the lines in front of it on the disk. So a crash takes back nothing that was answered: whatever
-//! it leaves of the journal stands for the rows after the first so many of the orders, with every order among them whose
-//! answer was handed out.
+//! Each event that changes rows and is answered `Done` is written as its line, in order, and an answer may be handed
+//! out once a sync has put the lines in front of it on the disk. So a crash takes back nothing that was answered:
+//! whatever it leaves of the journal stands for the rows after the first so many of the orders, with every order among
+//! them whose answer was handed out.
 //!
 //! [`open`] reads a journal into an empty register and returns a [`Journaled`], which applies events and syncs. A
 //! [`Kept`] also holds the answers back until they may be handed out. The laws say what a journal stands for, and the

@@ -55,8 +55,8 @@ impl Restored {
     }
 }
 
-/// Reads a journal to its end into an empty register, of which no part is lent and no piece is loose. Returns the register
-/// with the rows that the file stands for, and where its parts end.
+/// Reads a journal to its end into an empty register, of which no part is lent and no piece is loose. Returns the
+/// register with the rows that the file stands for, and where its parts end.
 fn restore<U: Unread>(
     alloc: Global,
     register: Register,
@@ -80,11 +80,11 @@ fn restore<U: Unread>(
     Ok((restored.register, ends))
 }
 
-/// Reads a journal into an empty register, of which no part is lent and no piece is loose, and makes the file ready to be
-/// written. The register has the rows that the file stands for by then; its regions, its words and its slots stay those
-/// of its opening, so nothing is published of these rows yet. A crash during the call leaves the rows as they are, as
-/// [`begin`] says. Gives up with `BadLine` at a line that isn't right or whose event isn't answered `Done`, with `Memory`, and
-/// as `journal::replay` and [`begin`] do.
+/// Reads a journal into an empty register, of which no part is lent and no piece is loose, and makes the file ready to
+/// be written. The register has the rows that the file stands for by then; its regions, its words and its slots stay
+/// those of its opening, so nothing is published of these rows yet. A crash during the call leaves the rows as they
+/// are, as [`begin`] says. Gives up with `BadLine` at a line that isn't right or whose event isn't answered `Done`,
+/// with `Memory`, and as `journal::replay` and [`begin`] do.
 pub fn open<U: Unread + Drop>(
     alloc: Global,
     register: Register,

@@ -36,9 +36,9 @@ pub fn begin<D: Device>(alloc: Global, tape: &mut Tape<D>, ends: Ends) -> Result
 }
 
 /// Writes the lines of the orders that are under way, and syncs. From an `Ok` on, the file stands for the rows of the
-/// register, so that the answers to these orders may be handed out. A crash at any moment of the call leaves a file that
-/// stands for the rows after the first so many of them. Gives up as `Tape::commit` does, and then the file is to be
-/// opened again.
+/// register, so that the answers to these orders may be handed out. A crash at any moment of the call leaves a file
+/// that stands for the rows after the first so many of them. Gives up as `Tape::commit` does, and then the file is to
+/// be opened again.
 pub fn write<D: Device>(tape: &mut Tape<D>, group: &[u8]) -> Result<(), JournalFault>
     requires under_way { (stored : Store) × (orders : List Order) × (register : OwnersState) × (answers : List Answer)
         × IsOnDisk D.seen D.may_leave stored tape.old × IsAhead stored orders register answers group.now }
