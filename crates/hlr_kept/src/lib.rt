@@ -23,6 +23,8 @@ mod kept;
 mod laws;
 mod opening;
 mod restoring;
+#[cfg(test)]
+mod tests;
 mod writing;
 
 pub use journaled::Journaled;
