@@ -3,13 +3,9 @@
 #define main save_main
 #include "save.c"
 #undef main
-#include <time.h>
+#include "shared.h"
 
-static double now(void) {
-    struct timespec time = {0};
-    clock_gettime(CLOCK_PROCESS_CPUTIME_ID, &time);
-    return (double)time.tv_sec + (double)time.tv_nsec / 1e9;
-}
+static double now(void) { return seconds_of(CLOCK_PROCESS_CPUTIME_ID); }
 
 int main(int argc, char **argv) {
     hlr handle = HLR_CLOSED;

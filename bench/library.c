@@ -5,31 +5,19 @@
  * switched off, and forwardings there already, or gone. */
 #define _POSIX_C_SOURCE 200809L
 #include "hlr.h"
+#include "shared.h"
 #include <inttypes.h>
 #include <stdio.h>
 #include <stdlib.h>
-#include <time.h>
 
 enum { MANY = 16 };
 
 static hlr handle = HLR_CLOSED;
-static uint64_t seed = 88172645463325252u, subscribers, others, sum;
+static uint64_t seed = FIRST_SEED, subscribers, others, sum;
 
-static uint64_t drawn(void) {
-    seed ^= seed << 13;
-    seed ^= seed >> 7;
-    seed ^= seed << 17;
-    return seed >> 16;
-}
+static uint64_t drawn(void) { return drawn_from(&seed); }
 
-static double now(void) {
-    struct timespec time;
-    clock_gettime(CLOCK_MONOTONIC, &time);
-    return time.tv_sec + time.tv_nsec / 1e9;
-}
-
-/* a number of a subscriber, which tells nothing of the order of the s_ids */
-static uint64_t number(uint64_t s_id) { return s_id * 2654435761u % 1000000007u; }
+static double now(void) { return seconds_of(CLOCK_MONOTONIC); }
 
 /* each subscriber once, in an order that looks random: the step has no divisor in common with their number */
 static uint64_t place(uint64_t turn) { return turn * 7919 % subscribers + 1; }
@@ -146,7 +134,7 @@ static uint8_t mix(uint64_t turn) {
 static uint8_t views(uint64_t turn) {
     int64_t published[HLR_CELLS], unposted[HLR_CELLS];
     uint8_t code = hlr_views(&handle, published, unposted);
-    sum += published[turn % HLR_CELLS] + unposted[turn % HLR_CELLS];
+    sum += (uint64_t)(published[turn % HLR_CELLS] + unposted[turn % HLR_CELLS]);
     return code;
 }
 
@@ -154,7 +142,7 @@ static uint8_t views(uint64_t turn) {
 static void timed_many(const char *name, uint8_t (*call)(uint64_t), uint64_t calls, uint64_t questions) {
     double begun = now();
     for (uint64_t turn = 0; turn < calls; turn++) others += call(turn) != HLR_DONE;
-    printf("%s %" PRIu64 " %.0f\n", name, calls, calls * questions / (now() - begun));
+    printf("%s %" PRIu64 " %.0f\n", name, calls, (double)(calls * questions) / (now() - begun));
 }
 static void timed(const char *name, uint8_t (*call)(uint64_t), uint64_t calls) { timed_many(name, call, calls, 1); }
 

@@ -3,11 +3,11 @@
  * a measure and its value. Seconds are those of the processor, user and system. */
 #define _POSIX_C_SOURCE 200809L
 #include "hlr.h"
+#include "shared.h"
 #include <inttypes.h>
 #include <stdio.h>
 #include <stdlib.h>
 #include <string.h>
-#include <time.h>
 #include <unistd.h>
 
 #define LOCATIONS 4294967295u
@@ -15,20 +15,11 @@
 enum { PAGE = 256, CALLS = 1000000 };
 
 static hlr handle = HLR_CLOSED;
-static uint64_t seed = 88172645463325252u, subscribers, sum;
+static uint64_t seed = FIRST_SEED, subscribers, sum;
 
-static uint64_t drawn(void) {
-    seed ^= seed << 13;
-    seed ^= seed >> 7;
-    seed ^= seed << 17;
-    return seed >> 16;
-}
+static uint64_t drawn(void) { return drawn_from(&seed); }
 
-static double now(void) {
-    struct timespec time;
-    clock_gettime(CLOCK_PROCESS_CPUTIME_ID, &time);
-    return (double)time.tv_sec + (double)time.tv_nsec / 1e9;
-}
+static double now(void) { return seconds_of(CLOCK_PROCESS_CPUTIME_ID); }
 
 /* Bytes of the process that lie in memory. */
 static double resident(void) {
@@ -50,10 +41,7 @@ static void want(uint8_t code) {
     exit(1);
 }
 
-/* A number of a subscriber, which tells nothing of the order of the s_ids; no two are equal. */
-static uint64_t number(uint64_t s_id) { return s_id * 2654435761u % 1000000007u; }
-
-/* So many of the first bits, drawn. */
+/* Draws some of the first bits, as many as `count` says. */
 static unsigned drawn_of(unsigned bits, unsigned count) {
     unsigned chosen = 0;
     while (count > 0) {

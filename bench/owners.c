@@ -4,11 +4,11 @@
  * that of bench/library.c, where owners go by the s_id and the handle by the number. */
 #define _POSIX_C_SOURCE 200809L
 #include "hlr.h"
+#include "shared.h"
 #include <inttypes.h>
 #include <pthread.h>
 #include <stdio.h>
 #include <stdlib.h>
-#include <time.h>
 
 enum { MOST = 16, MANY = 16 };
 typedef enum { READS, MANY_READS, MIX } load;
@@ -29,21 +29,11 @@ static pthread_mutex_t lock = PTHREAD_MUTEX_INITIALIZER;
 static pthread_barrier_t gate;
 static worker workers[MOST];
 
-static uint64_t drawn(worker *by) {
-    by->seed ^= by->seed << 13;
-    by->seed ^= by->seed >> 7;
-    by->seed ^= by->seed << 17;
-    return by->seed >> 16;
-}
+static uint64_t drawn(worker *by) { return drawn_from(&by->seed); }
 
-static double now(void) {
-    struct timespec time;
-    clock_gettime(CLOCK_MONOTONIC, &time);
-    return time.tv_sec + time.tv_nsec / 1e9;
-}
+static double now(void) { return seconds_of(CLOCK_MONOTONIC); }
 
-static uint64_t number(uint64_t s_id) { return s_id * 2654435761u % 1000000007u; }
-static int is_refused(uint8_t code) {
+static uint64_t is_refused(uint8_t code) {
     return code != HLR_DONE && code != HLR_NO_DESTINATION && code != HLR_EXISTS && code != HLR_NO_FORWARDING;
 }
 
@@ -120,7 +110,7 @@ static double run(uint64_t threads, uint64_t subscribers, uint64_t calls, load l
     pthread_t started[MOST];
     pthread_barrier_init(&gate, 0, (unsigned)threads + 1);
     for (uint64_t i = 0; i < threads; i++) {
-        workers[i] = (worker){.owner = HLR_CLOSED, .seed = 88172645463325252u * (i + 1), .first = 1, .count = subscribers, .calls = calls / threads,
+        workers[i] = (worker){.owner = HLR_CLOSED, .seed = FIRST_SEED * (i + 1), .first = 1, .count = subscribers, .calls = calls / threads,
                               .load = load, .has_lock = threads > 1};
         if (are_owners) {
             uint64_t behind;
@@ -138,7 +128,7 @@ static double run(uint64_t threads, uint64_t subscribers, uint64_t calls, load l
         if (are_owners && hlr_back(&handle, i)) exit(1);
     }
     pthread_barrier_destroy(&gate);
-    return calls / threads * threads / took;
+    return (double)(calls / threads * threads) / took;
 }
 
 static void fill(uint64_t subscribers) {

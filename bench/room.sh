@@ -41,6 +41,19 @@ add_invariants() {
   cp "bench/$(basename "$room")/$1.antt.txt" "$crate/proofs/$1/Invariants.antt"
 }
 
+# add_proofs: each file bench/NAME/PLACE.antt.txt as proofs/PLACE.antt, where a dot in PLACE stands for a slash.
+add_proofs() {
+  local bench file place proofs
+  bench=bench/$(basename "$room")
+  proofs=$room/crates/$(basename "$room")_bench/proofs
+  for file in "$bench"/*.antt.txt; do
+    place=$(basename "$file" .antt.txt)
+    place=$proofs/${place//.//}.antt
+    mkdir -p "$(dirname "$place")"
+    cp "$file" "$place"
+  done
+}
+
 build_program() {
   local crate
   crate=$(basename "$program")

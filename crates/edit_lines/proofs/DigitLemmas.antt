@@ -31,7 +31,7 @@ put_all items whole count i rest past so =
     let none : count - i ≡ 0 = omega arith in
     sym (append-nil items) ∙ rw (none, digits_none rest) at so
 
--- so many digits stand for a number below a power of 128
+-- digits stand for a number below the power of 128 that their count gives
 pub number_below : (ds : List ℕ) → number_of ds < 128 ^ length ds
 unfolding number_of
 number_below [] = rw (pow-zero 128) (omega arith)

@@ -65,7 +65,7 @@ done_is_change (Take piece part) book act asked done = absurd cc
 done_is_change (Divide part at) book act asked done = absurd cc
 done_is_change (Dissolve part) book act asked done = absurd cc
 
--- the rows answered Done, if their reply says so
+-- if the reply of an action on rows is Done, the rows have answered Done
 rows_done : (rows : RowReply) → reply.Rows row_reply.Done ≡ reply_of rows → rows ≡ row_reply.Done
 rows_done (row_reply.Refused why) same = absurd cc
 rows_done row_reply.Done same = refl

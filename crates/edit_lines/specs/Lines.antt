@@ -9,7 +9,7 @@ use Rattle.hlr_core.specs.Step.{has_forwarding_key}
 use Rattle.hlr_core.specs.declared.event.Event.{Event}
 use Rattle.hlr_core.specs.declared.event.Event.TheVariants.{UpdateSubscriber, UpdateLocation, InsertForwarding, DeleteForwarding, AddSubscriber, AddAccess, AddFacility, SetActive, SetNumber}
 
--- a number in so many digits to the base 128, the lowest first, each with its top bit set
+-- a number in a count of digits to the base 128, the lowest first, each with its top bit set
 unfoldable pub digits : ℕ → ℕ → List ℕ
 digits zero n = []
 digits (suc count) n = (128 + n % 128) ∷ digits count (n / 128)

@@ -1,5 +1,5 @@
--- How a line is read, and what is wrong with one that isn't. That this is the way back from an event's line is said by
--- clauses of `read_line`.
+-- How a line is read, and why a line is refused. The clauses of `read_line` say that reading is the way back from the
+-- line of an event.
 use Rattle.std.specs.Prelude.{ℕ, ◌+◌, ◌*◌, ◌%◌, ◌^◌, ◌==◌, ◌&&◌, nat_eq, nat_le, nat_lt, List, [], ◌∷◌, ◌++◌, length, take, drop, slice_index, sum, Result, Ok, Err, if◌then◌else◌}
 use Rattle.std.specs.List.{list_all, starts_with}
 use Rattle.std.specs.Str.{bytes_eq}
@@ -10,7 +10,7 @@ use Rattle.edit_lines.specs.declared.error.LineError.TheVariants as errors
 use Rattle.hlr_core.specs.declared.event.Event.{Event}
 use Rattle.hlr_core.specs.declared.event.Event.TheVariants.{UpdateSubscriber, UpdateLocation, InsertForwarding, DeleteForwarding, AddSubscriber, AddAccess, AddFacility, SetActive, SetNumber}
 
--- a list of so many digits, or what is wrong with it
+-- what is wrong with a list that is to have a count of digits, if anything
 abbrev pub checked : ℕ → List ℕ → Result (Unit {0}) LineError
 checked count digits =
     if length digits == count then (if list_all (nat_le 128) digits then Ok tt else Err errors.Digit)
@@ -26,7 +26,7 @@ abbrev pub numbers_of : List ℕ → List ℕ → List ℕ
 numbers_of [] digits = []
 numbers_of (count ∷ counts) digits = number_of (take count digits) ∷ numbers_of counts (drop count digits)
 
--- what was made, if the digits were found right
+-- the event that the digits make, or what is wrong with them
 abbrev pub if_digits : Result (Unit {0}) LineError → Result Event LineError → Result Event LineError
 if_digits (Ok done) made = made
 if_digits (Err why) made = Err why
@@ -101,7 +101,7 @@ active_from ns = if_has_line (SetActive (slice_index ns 0) (slice_index ns 1) (s
 abbrev pub number_from : List ℕ → Result Event LineError
 number_from ns = if_has_line (SetNumber (slice_index ns 0) (slice_index ns 1))
 
--- the event whose fields these bytes are, in so many digits each
+-- the event whose fields these bytes are, each in its count of digits
 abbrev pub fields_in : List ℕ → (List ℕ → Result Event LineError) → List ℕ → Result Event LineError
 fields_in counts make bytes = if_digits (checked (sum counts) bytes) (make (numbers_of counts bytes))
 

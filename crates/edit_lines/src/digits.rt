@@ -15,7 +15,7 @@ pub const LONGEST: usize = 44;
 /// A line that is being written.
 pub type Line = ArrayVec<u8, LONGEST>;
 
-/// Appends so many digits of a number, the lowest first.
+/// Appends a number in a count of digits, the lowest first.
 #[inline(always)]
 pub fn put(line: &mut Line, count: usize, number: u64)
     requires { array_vec_len line.old + count ≤ 44 }
@@ -37,8 +37,8 @@ fn are_digits(bytes: &[u8]) -> bool
     bytes.iter().all(|byte| *byte >= 128)
 }
 
-/// Checks that a line has so many bytes behind its letter, and that each of them is a digit. Its errors, in order, are
-/// `Length` and `Digit`.
+/// Checks that the bytes behind the letter of a line are as many as `count` says, and that each of them is a digit. Its
+/// errors, in order, are `Length` and `Digit`.
 #[inline(always)]
 pub fn check(digits: &[u8], count: usize) -> Result<(), LineError>
     ensures { result ≡ checked count digits.now }
@@ -65,7 +65,7 @@ fn number(digits: &[u8]) -> u64
     number
 }
 
-/// Returns the number that the first so many digits stand for, and the digits behind them.
+/// Returns the number that the first `count` digits stand for, and the digits behind them.
 #[inline(always)]
 pub fn number_at(digits: &[u8], count: usize) -> (u64, &[u8])
     requires within { count ≤ length digits.now }

@@ -12,6 +12,7 @@ mod reading;
 mod tests;
 mod writing;
 
+pub use digits::LONGEST;
 pub use done::done_is_change;
 pub use error::LineError;
 pub use first::{check_first_line, push_first_line};

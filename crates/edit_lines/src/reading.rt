@@ -232,11 +232,11 @@ fn read(line: &[u8]) -> Result<Event, LineError>
 /// Reads the event whose line this is, without its line feed. Its errors, in order, are `Kind`, `Length`, `Digit` and
 /// `Field`, as `LineError` describes them.
 pub fn read_line(line: &[u8]) -> Result<Event, LineError>
-    // What is read has this line.
+    // An event that is read has this line.
     ensures read { IfOk result (λ event. (has_line event ≡ true) × (line.now ≡ line_of event)) }
     // The line of an event is read as this event.
     ensures back { (event : Event) → has_line event ≡ true → line.now ≡ line_of event → result ≡ Ok event }
-    // Which error it is.
+    // The definition says which error refuses a line.
     ensures exact { result ≡ event_of line.now }
 {
     read(line)

@@ -249,7 +249,7 @@ impl Draws {
         Ok(Number::try_new(high * 1_000_000 + self.next() % 1_000_000)?)
     }
 
-    /// Draws bytes from the least one on, so many different ones.
+    /// Draws bytes, each of which is one of the `count` values from `least` on.
     fn list<const N: usize>(&mut self, least: u8, count: u8) -> [u8; N] {
         let mut bytes = [0u8; N];
         for i in 0..N {

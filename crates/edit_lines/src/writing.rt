@@ -1,5 +1,5 @@
 //! Lines of events, as they are written.
-ghost use Rattle.std.specs.Prelude.{◌≡◌, ◌<◌, ◌≤◌, ◌++◌, ◌∷◌, [], OnOk, OnErr, true};
+ghost use Rattle.std.specs.Prelude.{◌≡◌, ◌<◌, ◌≤◌, ◌+◌, ◌++◌, ◌∷◌, [], OnOk, OnErr, true, vec_len, vec_capacity};
 ghost use Rattle.std.specs.List.{AllByRecursion};
 ghost use Rattle.arrayvec.specs.ArrayVec.{array_vec_len};
 ghost use Rattle.edit_lines.specs.Lines.{line_of, is_change, has_values, has_line};
@@ -170,6 +170,7 @@ fn push(lines: &mut Vec<u8>, line: Line) -> Result<(), AllocError>
     requires { array_vec_len line ≤ 43 }
     ensures ok { OnOk result (lines.new.items ≡ lines.old.items ++ (line.items ++ 10 ∷ [])) }
     ensures err { OnErr result (lines.new.items ≡ lines.old.items) }
+    ensures full { OnErr result (vec_capacity lines.old < vec_len lines.old + 44) }
 {
     let mut line = line;
     line.push(b'\n');
@@ -182,6 +183,7 @@ fn push_event(lines: &mut Vec<u8>, event: &Event) -> Result<(), AllocError>
     requires { is_change event.now ≡ true }
     ensures ok { OnOk result (lines.new.items ≡ lines.old.items ++ (line_of event.now ++ 10 ∷ [])) }
     ensures err { OnErr result (lines.new.items ≡ lines.old.items) }
+    ensures full { OnErr result (vec_capacity lines.old < vec_len lines.old + 44) }
     ensures fits { has_line event.now ≡ true }
 {
     let event = *event;
@@ -225,12 +227,14 @@ fn push_event(lines: &mut Vec<u8>, event: &Event) -> Result<(), AllocError>
     }
 }
 
-/// Appends the line of an event that changes rows, and a line feed. It appends nothing if the system refuses memory.
-/// The plain numbers of the event have to be in their ranges, as they are if a register answered `Done`.
+/// Appends the line of an event that changes rows, and a line feed. It appends nothing if the system refuses memory,
+/// which can't happen if the vector has room for `LONGEST` more bytes. The plain numbers of the event have to be in
+/// their ranges, as they are if a register answered `Done`.
 pub fn push_line(lines: &mut Vec<u8>, event: &Event) -> Result<(), AllocError>
     requires { is_change event.now ≡ true }
     ensures ok { OnOk result (lines.new.items ≡ lines.old.items ++ (line_of event.now ++ 10 ∷ [])) }
     ensures err { OnErr result (lines.new.items ≡ lines.old.items) }
+    ensures full { OnErr result (vec_capacity lines.old < vec_len lines.old + 44) }
     ensures fits { has_line event.now ≡ true }
     // The line has neither a zero nor a line feed in it.
     ensures plain { AllByRecursion (λ byte. 10 < byte) (line_of event.now) }

@@ -8,9 +8,10 @@ use Rattle.journal.proofs.LineLemmas.{lines_other, open_other, lines_one_feed, o
 use Rattle.journal.proofs.TextLemmas.{text_byte, no_zero-append}
 use Rattle.edit_lines.specs.Lines.{line_of}
 use Rattle.edit_lines.proofs.LineLemmas.{plain_line}
-use Rattle.hlr_core.specs.declared.event.Event.{Event}
-use Rattle.hlr_core.specs.declared.event.Reply.{Reply}
-use Rattle.hlr_kept.specs.Runs.{IsGroup, line_bytes, lines_of, tells_done}
+use Rattle.hlr_core.specs.declared.order.Answer.{Answer}
+use Rattle.hlr_core.specs.declared.order.Order.{Order}
+use Rattle.hlr_core.specs.declared.order.Order.TheVariants as order
+use Rattle.hlr_kept.specs.Runs.{IsGroup, changed_rows, line_bytes, line_for, lines_of}
 
 -- no byte is a zero or a line feed
 abbrev pub IsPlain : List ℕ → Type 0
@@ -51,9 +52,13 @@ group-append xs ys a b one two = record {
   whole = whole-append a b one.whole two.whole;
 }
 
--- what is written of one event
-pub event_group : (event : Event) (told : Reply) → IsGroup (lines_of (event ∷ []) (told ∷ [])) (line_bytes event told)
-event_group event told =
-    by_test (tells_done told)
-    (λ e. rw e (one_line (line_of event) (plain_line event)))
+-- what is written of one order
+plain_order : (one : Order) → IsPlain (line_for one)
+plain_order (order.Event event) = plain_line event
+plain_order (order.Recut bounds) = tt
+
+pub order_group : (one : Order) (told : Answer) → IsGroup (lines_of (one ∷ []) (told ∷ [])) (line_bytes one told)
+order_group one told =
+    by_test (changed_rows one told)
+    (λ e. rw e (one_line (line_for one) (plain_order one)))
     (λ e. rw e group_none)

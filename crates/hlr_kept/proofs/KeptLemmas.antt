@@ -1,4 +1,4 @@
--- A kept register: events that are submitted, and a sync.
+-- Orders under way, and what is written of them.
 use Rattle.std.proofs.Common.{◌≡◌, ◌∙◌, refl, sym, ap, subst, inl, inr, ⊎_elim, ℕ, true, List, [], ◌∷◌, ◌++◌, Some}
 use Rattle.journal_file.specs.Device.{LeavesOnly}
 use Rattle.journal.specs.Lines.{HasFence, IsWhole, lines, recovered, text}
@@ -6,46 +6,47 @@ use Rattle.journal.specs.Tape.{HasLinesBetween, IsOpen}
 use Rattle.journal.specs.declared.tape.Tape.{Tape}
 use Rattle.journal.proofs.MomentLemmas.{weaker}
 use Rattle.tatp_actions.specs.Book.{empty_book}
-use Rattle.edit_lines.specs.Lines.{first_line, has_line}
+use Rattle.edit_lines.specs.Lines.{first_line}
 use Rattle.hlr_owners.specs.Owners.{OwnersState, book_in, store_in}
 use Rattle.hlr_owners.specs.Store.{Store}
-use Rattle.hlr_core.specs.Step.{IsStep}
-use Rattle.hlr_core.specs.declared.event.Event.{Event}
-use Rattle.hlr_core.specs.declared.event.Reply.{Reply}
-use Rattle.hlr_kept.specs.Runs.{IsAhead, IsBegun, IsGroup, IsOnDisk, StandsAfterSome, line_bytes, lines_of, tells_done}
+use Rattle.hlr_core.specs.Run.{IsOrderStep}
+use Rattle.hlr_core.specs.declared.order.Answer.{Answer}
+use Rattle.hlr_core.specs.declared.order.Order.{Order}
+use Rattle.hlr_core.proofs.RunLemmas.{run_more}
+use Rattle.hlr_kept.specs.Runs.{IsAhead, IsBegun, IsGroup, IsOnDisk, StandsAfterSome, changed_rows, is_writable, line_bytes, lines_of}
 use Rattle.hlr_kept.specs.Rows.{book_after_lines, book_of, book_of_lines}
-use Rattle.hlr_kept.proofs.GroupLemmas.{event_group, group-append, group_none}
-use Rattle.hlr_kept.proofs.RunLemmas.{all_events, behind_begun, fit_more, lines_more, run_more, stands}
+use Rattle.hlr_kept.proofs.GroupLemmas.{order_group, group-append, group_none}
+use Rattle.hlr_kept.proofs.RunLemmas.{all_orders, behind_begun, fit_more, lines_more, stands}
 
--- no event is ahead
-pub none_ahead : (register : OwnersState) (held : List Reply) (group : List ℕ) → held ≡ [] → group ≡ [] → IsAhead (store_in register) [] register held group
-none_ahead register held group none nothing =
-    subst (λ (h : List Reply). IsAhead (store_in register) [] register h group) (sym none)
+-- no order is ahead
+pub none_ahead : (register : OwnersState) (answers : List Answer) (group : List ℕ) → answers ≡ [] → group ≡ [] → IsAhead (store_in register) [] register answers group
+none_ahead register answers group none nothing =
+    subst (λ (h : List Answer). IsAhead (store_in register) [] register h group) (sym none)
     (subst (λ (g : List ℕ). IsAhead (store_in register) [] register [] g) (sym nothing)
     (record { run = refl; fit = tt; lines = group_none }))
 
--- one event more is ahead
-pub event_ahead : (stored : Store) (events : List Event) (before after : OwnersState) (held held2 : List Reply) (group group2 : List ℕ) (event : Event) (told : Reply) → IsAhead stored events before held group
-    → IsStep event (store_in before) told (store_in after) → (tells_done told ≡ true → has_line event ≡ true)
-    → group2 ≡ group ++ line_bytes event told → held2 ≡ held ++ told ∷ [] → IsAhead stored (events ++ event ∷ []) after held2 group2
-event_ahead stored events before after held held2 group group2 event told was step fits put pushed =
-    subst (λ (h : List Reply). IsAhead stored (events ++ event ∷ []) after h group2) (sym pushed)
-    (subst (λ (g : List ℕ). IsAhead stored (events ++ event ∷ []) after (held ++ told ∷ []) g) (sym put)
+-- one order more is ahead
+pub order_ahead : (stored : Store) (orders : List Order) (before after : OwnersState) (answers answers2 : List Answer) (group group2 : List ℕ) (one : Order) (told : Answer) → IsAhead stored orders before answers group
+    → IsOrderStep one (store_in before) told (store_in after) → (changed_rows one told ≡ true → is_writable one ≡ true)
+    → group2 ≡ group ++ line_bytes one told → answers2 ≡ answers ++ told ∷ [] → IsAhead stored (orders ++ one ∷ []) after answers2 group2
+order_ahead stored orders before after answers answers2 group group2 one told was step fits put pushed =
+    subst (λ (h : List Answer). IsAhead stored (orders ++ one ∷ []) after h group2) (sym pushed)
+    (subst (λ (g : List ℕ). IsAhead stored (orders ++ one ∷ []) after (answers ++ told ∷ []) g) (sym put)
     (record {
-      run = run_more events held event told stored (store_in before) (store_in after) was.run step;
-      fit = fit_more events held event told stored (store_in before) was.run was.fit fits;
-      lines = subst (λ (l : List (List ℕ)). IsGroup l (group ++ line_bytes event told))
-          (sym (lines_more events held event told stored (store_in before) was.run))
-          (group-append (lines_of events held) (lines_of (event ∷ []) (told ∷ [])) group (line_bytes event told) was.lines (event_group event told));
+      run = run_more orders one answers told stored (store_in before) (store_in after) was.run step;
+      fit = fit_more orders answers one told stored (store_in before) was.run was.fit fits;
+      lines = subst (λ (l : List (List ℕ)). IsGroup l (group ++ line_bytes one told))
+          (sym (lines_more orders answers one told stored (store_in before) was.run))
+          (group-append (lines_of orders answers) (lines_of (one ∷ []) (told ∷ [])) group (line_bytes one told) was.lines (order_group one told));
     }))
 
 -- once the lines are written, the file stands for the register's rows
-pub all_written : (stored : Store) (events : List Event) (register : OwnersState) (held : List Reply) (group : List ℕ) (low now : List (List ℕ)) → IsAhead stored events register held group
+pub all_written : (stored : Store) (orders : List Order) (register : OwnersState) (answers : List Answer) (group : List ℕ) (low now : List (List ℕ)) → IsAhead stored orders register answers group
     → IsBegun low → book_of_lines low ≡ Some stored.book → now ≡ low ++ lines group → book_of_lines now ≡ Some (book_in register.owners)
-all_written stored events register held group low now was begun rows is =
+all_written stored orders register answers group low now was begun rows is =
     ap book_of_lines is ∙ behind_begun low (lines group) begun ∙ ap (book_after_lines (lines group)) rows
     ∙ ap (λ (l : List (List ℕ)). book_after_lines l (Some stored.book)) was.lines.lines
-    ∙ all_events events held stored (store_in register) was.run was.fit
+    ∙ all_orders orders answers stored (store_in register) was.run was.fit
 
 pub begun-append : (low more : List (List ℕ)) → IsBegun low → IsBegun (low ++ more)
 begun-append [] more begun = absurd begun
@@ -53,27 +54,27 @@ begun-append (first ∷ low) more begun = tt
 
 module _ {D : Type 0} (seen : D → List ℕ) (may_leave : D → List ℕ → Type 0) where
   -- a store is on the disk once all lines are
-  pub disk_after : (stored : Store) (events : List Event) (register : OwnersState) (held : List Reply) (group : List ℕ) (old new : Tape D) → IsAhead stored events register held group
+  pub disk_after : (stored : Store) (orders : List Order) (register : OwnersState) (answers : List Answer) (group : List ℕ) (old new : Tape D) → IsAhead stored orders register answers group
       → IsOnDisk seen may_leave stored old → IsOpen seen may_leave new → new.synced ≡ new.end → IsWhole (text (seen new.device))
       → recovered (seen new.device) ≡ recovered (seen old.device) ++ lines group → IsOnDisk seen may_leave (store_in register) new
-  disk_after stored events register held group old new was disk opened synced whole is = record {
+  disk_after stored orders register answers group old new was disk opened synced whole is = record {
     open_tape = opened;
     synced = synced;
     whole = whole;
     begun = subst IsBegun (sym is) (begun-append (recovered (seen old.device)) (lines group) disk.begun);
-    rows = all_written stored events register held group (recovered (seen old.device)) (recovered (seen new.device)) was disk.begun disk.rows is;
+    rows = all_written stored orders register answers group (recovered (seen old.device)) (recovered (seen new.device)) was disk.begun disk.rows is;
   }
 
--- what a crash leaves while the lines of events are written
+-- what a crash leaves while the lines of orders are written
 module _ {D : Type 0} (seen : D → List ℕ) (may_leave : D → List ℕ → Type 0) (moment : D → ℕ) (left_since : D → ℕ → List ℕ → Type 0) where
-  pub write_leaves : (stored : Store) (events : List Event) (register : OwnersState) (held : List Reply) (old new : Tape D) (group : List ℕ) → IsOnDisk seen may_leave stored old
-      → IsAhead stored events register held group
+  pub write_leaves : (stored : Store) (orders : List Order) (register : OwnersState) (answers : List Answer) (old new : Tape D) (group : List ℕ) → IsOnDisk seen may_leave stored old
+      → IsAhead stored orders register answers group
       → LeavesOnly moment left_since old.device new.device (HasLinesBetween (recovered (seen old.device)) (recovered (seen old.device) ++ lines group))
-      → LeavesOnly moment left_since old.device new.device (λ c. HasFence c × StandsAfterSome events held stored c)
-  write_leaves stored events register held old new group disk was run =
+      → LeavesOnly moment left_since old.device new.device (λ c. HasFence c × StandsAfterSome orders answers stored c)
+  write_leaves stored orders register answers old new group disk was run =
       weaker moment left_since old.device new.device (HasLinesBetween (recovered (seen old.device)) (recovered (seen old.device) ++ lines group))
-      (λ c. HasFence c × StandsAfterSome events held stored c) run
-      (λ c between. stands events held stored (store_in register) (recovered (seen old.device)) (lines group) c was.run was.fit disk.begun disk.rows was.lines.lines between)
+      (λ c. HasFence c × StandsAfterSome orders answers stored c) run
+      (λ c between. stands orders answers stored (store_in register) (recovered (seen old.device)) (lines group) c was.run was.fit disk.begun disk.rows was.lines.lines between)
 
 module _ {D : Type 0} (moment : D → ℕ) (left_since : D → ℕ → List ℕ → Type 0) where
   -- what two runs of calls leave

@@ -1,3 +1,5 @@
 pub mod Laws
+pub mod Restored
 pub mod Rows
 pub mod Runs
+pub mod UnderWay

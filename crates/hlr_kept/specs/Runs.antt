@@ -1,4 +1,4 @@
--- Events under way: their run, the lines that it leaves, and what a crash makes of them.
+-- Orders under way: the lines that their run leaves, and what a crash makes of them.
 use Rattle.std.specs.Prelude.{⊤, ◌≡◌, ◌≤◌, ℕ, Bool, true, false, List, [], ◌∷◌, ◌++◌, length, take, Some, if◌then◌else◌}
 use Rattle.journal.specs.Lines.{text, lines, recovered, HasNoZero, IsWhole}
 use Rattle.journal.specs.Tape.{IsOpen}
@@ -6,21 +6,17 @@ use Rattle.journal.specs.declared.tape.Tape.{Tape}
 use Rattle.edit_lines.specs.Lines.{has_line, line_of}
 use Rattle.hlr_owners.specs.Owners.{OwnersState, store_in}
 use Rattle.hlr_owners.specs.Store.{Store}
-use Rattle.hlr_core.specs.Step.{IsStep, is_done}
-use Rattle.hlr_core.specs.declared.event.Event.{Event}
+use Rattle.hlr_core.specs.Run.{IsRun}
+use Rattle.hlr_core.specs.Step.{is_done}
 use Rattle.hlr_core.specs.declared.event.Reply.{Reply}
 use Rattle.hlr_core.specs.declared.event.Reply.TheVariants as reply
+use Rattle.hlr_core.specs.declared.order.Answer.{Answer}
+use Rattle.hlr_core.specs.declared.order.Answer.TheVariants as answer
+use Rattle.hlr_core.specs.declared.order.Order.{Order}
+use Rattle.hlr_core.specs.declared.order.Order.TheVariants as order
 use Rattle.tatp_rows.specs.declared.refusal.Refusal.{Refusal}
 use Rattle.tatp_rows.specs.declared.refusal.Refusal.TheVariants as refusal
 use Rattle.hlr_kept.specs.Rows.{book_of}
-
--- events, applied one after another from the first store on, may have these replies and lead to the second one
-abbrev pub IsEventRun : List Event → Store → List Reply → Store → Type 0
-IsEventRun [] before [] after = after ≡ before
-IsEventRun (event ∷ events) before (told ∷ replies) after =
-    (next : Store) × IsStep event before told next × IsEventRun events next replies after
-IsEventRun [] before (told ∷ replies) after = ⊥
-IsEventRun (event ∷ events) before [] after = ⊥
 
 -- the reply says that rows were changed
 abbrev pub tells_done : Reply → Bool
@@ -37,23 +33,38 @@ abbrev pub wants_memory : Reply → Bool
 wants_memory (reply.Refused why) = is_memory why
 wants_memory _ = false
 
+-- the order is an event that was answered Done
+abbrev pub changed_rows : Order → Answer → Bool
+changed_rows (order.Event event) (answer.Reply told) = tells_done told
+changed_rows _ _ = false
+
+-- the line of an event; a recut writes none, because it leaves the rows
+abbrev pub line_for : Order → List ℕ
+line_for (order.Event event) = line_of event
+line_for (order.Recut bounds) = []
+
+-- the order is an event that has a line of its own
+abbrev pub is_writable : Order → Bool
+is_writable (order.Event event) = has_line event
+is_writable (order.Recut bounds) = false
+
 -- the lines of the events that were answered Done
-abbrev pub lines_of : List Event → List Reply → List (List ℕ)
-lines_of [] replies = []
-lines_of (event ∷ events) [] = []
-lines_of (event ∷ events) (told ∷ replies) =
-    if tells_done told then line_of event ∷ lines_of events replies else lines_of events replies
+abbrev pub lines_of : List Order → List Answer → List (List ℕ)
+lines_of [] answers = []
+lines_of (one ∷ orders) [] = []
+lines_of (one ∷ orders) (told ∷ answers) =
+    if changed_rows one told then line_for one ∷ lines_of orders answers else lines_of orders answers
 
 -- each event that was answered Done has a line of its own
-abbrev pub HaveLines : List Event → List Reply → Type 0
-HaveLines [] replies = ⊤
-HaveLines (event ∷ events) [] = ⊤
-HaveLines (event ∷ events) (told ∷ replies) =
-    (tells_done told ≡ true → has_line event ≡ true) × HaveLines events replies
+abbrev pub HaveLines : List Order → List Answer → Type 0
+HaveLines [] answers = ⊤
+HaveLines (one ∷ orders) [] = ⊤
+HaveLines (one ∷ orders) (told ∷ answers) =
+    (changed_rows one told ≡ true → is_writable one ≡ true) × HaveLines orders answers
 
--- what is written of an event with this reply
-abbrev pub line_bytes : Event → Reply → List ℕ
-line_bytes event told = if tells_done told then line_of event ++ 10 ∷ [] else []
+-- what is written of an order with this answer
+abbrev pub line_bytes : Order → Answer → List ℕ
+line_bytes one told = if changed_rows one told then line_for one ++ 10 ∷ [] else []
 
 -- bytes are whole lines, these ones, with no 0 in them
 pub record IsGroup (written : List (List ℕ)) (bytes : List ℕ) : Type 0 where
@@ -75,19 +86,19 @@ pub record IsOnDisk {D : Type 0} (seen : D → List ℕ) (may_leave : D → List
   pub begun : IsBegun (recovered (seen tape.device))
   pub rows : book_of (seen tape.device) ≡ Some stored.book
 
--- Events lead from the store of the disk to that of the register, in a right run with the replies that are held. The
--- lines of those that were answered Done are yet to be written.
-pub record IsAhead (stored : Store) (events : List Event) (register : OwnersState) (held : List Reply) (group : List ℕ)
+-- Orders lead from the store of the disk to that of the register, in a right run with these answers. The lines of the
+-- events that were answered Done are yet to be written.
+pub record IsAhead (stored : Store) (orders : List Order) (register : OwnersState) (answers : List Answer) (group : List ℕ)
     : Type 0 where
-  pub run : IsEventRun events stored held (store_in register)
-  pub fit : HaveLines events held
-  pub lines : IsGroup (lines_of events held) group
+  pub run : IsRun orders stored answers (store_in register)
+  pub fit : HaveLines orders answers
+  pub lines : IsGroup (lines_of orders answers) group
 
--- The file stands for the rows after the first so many of the events, in a run with these replies.
-pub record StandsAfterSome (events : List Event) (replies : List Reply) (before : Store) (file : List ℕ)
+-- The file stands for the rows after the first so many of the orders, in a run with these answers.
+pub record StandsAfterSome (orders : List Order) (answers : List Answer) (before : Store) (file : List ℕ)
     : Type 0 where
   pub count : ℕ
-  pub within : count ≤ length events
+  pub within : count ≤ length orders
   pub after : Store
-  pub run : IsEventRun (take count events) before (take count replies) after
+  pub run : IsRun (take count orders) before (take count answers) after
   pub rows : book_of file ≡ Some after.book

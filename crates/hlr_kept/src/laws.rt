@@ -1,23 +1,27 @@
-//! What a journal stands for while events are under way, and after a crash. The calls do nothing.
-ghost use Rattle.hlr_kept.specs.Laws.{AppliedIsAhead, CrashesLeaveRuns, FrontsAreRuns, RedoneIsRight, WrittenIsKept};
+//! What a journal stands for while orders are under way, and after a crash. The calls change nothing.
+ghost use Rattle.hlr_owners.specs.Owners.{AllHome};
+ghost use Rattle.hlr_kept.specs.Laws.{AppliedIsAhead, CrashesLeaveRuns, FrontsAreRuns, LosesNothing, RedoneIsRight, WrittenIsKept};
 
-/// States that each front of the lines that a run leaves stands for the rows after the first so many of its events.
+use hlr_core::Register;
+
+/// States that each front of the lines that a run leaves stands for the rows after the first so many of its orders.
 pub fn fronts_are_runs()
     ensures { FrontsAreRuns }
 {}
 
-/// States that a journal stands for the rows of the register once the lines of all events are written.
+/// States that a journal stands for the rows of the register once the lines of all orders are written.
 pub fn written_is_kept()
     ensures { WrittenIsKept }
 {}
 
-/// States that a crash while lines are written leaves the rows after the first so many of the events under way, and
-/// those of all events before them.
+/// States that a crash while lines are written leaves the rows after the first so many of the orders under way, with
+/// all orders before them.
 pub fn crashes_leave_runs()
     ensures { CrashesLeaveRuns }
 {}
 
-/// States that an event is under way once it was applied, its reply is held, and its line is put behind the others.
+/// States that an order is under way once it was carried out, and the line of an event that was answered `Done` is put
+/// behind the others.
 pub fn applied_is_ahead()
     ensures { AppliedIsAhead }
 {}
@@ -26,3 +30,13 @@ pub fn applied_is_ahead()
 pub fn redone_is_right()
     ensures { RedoneIsRight }
 {}
+
+/// States that a register which was opened from what a crash has left, at any moment of a call that serves orders, has
+/// the rows after the first so many of them, with all that was answered before. For each cell, what is published and
+/// what is unposted add up to the count over these rows.
+pub fn loses_nothing(register: &Register)
+    requires { AllHome register.now.owners }
+    ensures { LosesNothing register.now }
+{
+    let _ = register.unposted();
+}

@@ -1,21 +1,38 @@
-//! What the journal of a register stands for, and what a crash leaves of it: the theory of a register that survives.
+//! A register that survives a crash: its rows are kept in a journal, and it comes back from there.
 //!
-//! Each event that changes rows and is answered `Done` is to be written as its line, in order, and each reply is to be
-//! held until a sync has put these lines on the disk. By the laws of this crate, a register that does so loses nothing
-//! that it has answered: after a crash at any moment, its journal stands for the rows after the first so many of the
-//! events, with every event among them whose reply was handed out.
+//! Each event that changes rows and is answered `Done` is written as its line, in order, and an answer may be handed
+//! out once a sync has put the lines in front of it on the disk. So a crash takes back nothing that was answered:
+//! whatever it leaves of the journal stands for the rows after the first so many of the orders, with every order among
+//! them whose answer was handed out.
 //!
-//! The crate has definitions, laws, and the calls that write a journal and do its lines again. A register over them
-//! applies an event, puts its line behind the others with `edit_lines::push_line`, and lets the replies go once
-//! [`write`] returned `Ok`.
+//! [`open`] reads a journal into an empty register and returns a [`Journaled`], which applies events and syncs. A
+//! [`Kept`] also holds the answers back until they may be handed out. The laws say what a journal stands for, and the
+//! calls below write a journal and do its lines again.
+//!
+//! ```text
+//! let register = Register::open(alloc, 4, 100_000)?;
+//! let mut kept = Kept::new(alloc, open(alloc, register, journal::open(&rt, "hlr.journal")?)?);
+//! kept.submit(&first)?;                     // applied, and its answer is held
+//! kept.submit(&second)?;
+//! for answer in kept.sync()? { .. }         // both are on the disk, so the answers may go
+//! ```
 #![tactic(auto)]
 
+mod journaled;
+mod kept;
 mod laws;
+mod opening;
 mod restoring;
+#[cfg(test)]
+mod tests;
 mod writing;
 
+pub use journaled::Journaled;
+pub use kept::Kept;
 pub use laws::{
-    applied_is_ahead, crashes_leave_runs, fronts_are_runs, redone_is_right, written_is_kept,
+    applied_is_ahead, crashes_leave_runs, fronts_are_runs, loses_nothing, redone_is_right,
+    written_is_kept,
 };
+pub use opening::open;
 pub use restoring::{redo, tells_done};
 pub use writing::{begin, write};

@@ -1,12 +1,12 @@
-//! Writes the lines of events that are under way.
+//! Writes the lines of orders that are under way.
 ghost use Rattle.std.specs.Prelude.{◌≡◌, List, OnOk, Some};
 ghost use Rattle.journal_file.specs.Device.{LeavesOnly, Only};
 ghost use Rattle.journal.specs.Lines.{HasFence};
 ghost use Rattle.journal.specs.Tape.{AreEnds};
 ghost use Rattle.hlr_owners.specs.Owners.{OwnersState, store_in};
 ghost use Rattle.hlr_owners.specs.Store.{Store};
-ghost use Rattle.hlr_core.specs.declared.event.Event.{Event};
-ghost use Rattle.hlr_core.specs.declared.event.Reply.{Reply};
+ghost use Rattle.hlr_core.specs.declared.order.Answer.{Answer};
+ghost use Rattle.hlr_core.specs.declared.order.Order.{Order};
 ghost use Rattle.hlr_kept.specs.Rows.{book_of};
 ghost use Rattle.hlr_kept.specs.Runs.{IsAhead, IsOnDisk, StandsAfterSome};
 
@@ -35,20 +35,20 @@ pub fn begin<D: Device>(alloc: Global, tape: &mut Tape<D>, ends: Ends) -> Result
     Ok(())
 }
 
-/// Writes the lines of the events that are under way, and syncs. From an `Ok` on, the file stands for the rows of the
-/// register, so that the replies to these events may be handed out. A crash at any moment of the call leaves a file that
-/// stands for the rows after the first so many of them. Gives up as `Tape::commit` does, and then the file is to be
-/// opened again.
+/// Writes the lines of the orders that are under way, and syncs. From an `Ok` on, the file stands for the rows of the
+/// register, so that the answers to these orders may be handed out. A crash at any moment of the call leaves a file
+/// that stands for the rows after the first so many of them. Gives up as `Tape::commit` does, and then the file is to
+/// be opened again.
 pub fn write<D: Device>(tape: &mut Tape<D>, group: &[u8]) -> Result<(), JournalFault>
-    requires under_way { (stored : Store) × (events : List Event) × (register : OwnersState) × (held : List Reply)
-        × IsOnDisk D.seen D.may_leave stored tape.old × IsAhead stored events register held group.now }
-    ensures stored { OnOk result ((stored : Store) (events : List Event) (register : OwnersState) (held : List Reply)
-        → IsOnDisk D.seen D.may_leave stored tape.old → IsAhead stored events register held group.now
+    requires under_way { (stored : Store) × (orders : List Order) × (register : OwnersState) × (answers : List Answer)
+        × IsOnDisk D.seen D.may_leave stored tape.old × IsAhead stored orders register answers group.now }
+    ensures stored { OnOk result ((stored : Store) (orders : List Order) (register : OwnersState) (answers : List Answer)
+        → IsOnDisk D.seen D.may_leave stored tape.old → IsAhead stored orders register answers group.now
         → IsOnDisk D.seen D.may_leave (store_in register) tape.new) }
-    ensures any_moment { (stored : Store) (events : List Event) (register : OwnersState) (held : List Reply)
-        → IsOnDisk D.seen D.may_leave stored tape.old → IsAhead stored events register held group.now
+    ensures any_moment { (stored : Store) (orders : List Order) (register : OwnersState) (answers : List Answer)
+        → IsOnDisk D.seen D.may_leave stored tape.old → IsAhead stored orders register answers group.now
         → LeavesOnly D.moment D.left_since tape.old.device tape.new.device
-        (λ c. HasFence c × StandsAfterSome events held stored c) }
+        (λ c. HasFence c × StandsAfterSome orders answers stored c) }
 {
     tape.commit(group)?;
     Ok(())

@@ -1,4 +1,4 @@
-//! A long journal gives way to a short one that says the same.
+//! Puts a short journal in the place of a long one.
 ghost use Rattle.std.specs.Prelude.{◌≡◌, ◌⊎◌, List, ℕ, OnOk};
 ghost use Rattle.journal_file.specs.Device.{LeavesOnly};
 ghost use Rattle.journal.specs.Lines.{text, recovered, HasFence};

@@ -1,23 +1,25 @@
-//! Follows the bytes of a file while they are read.
-ghost use Rattle.std.specs.Prelude.{◌≡◌, ◌≤◌, ◌<◌, ◌+◌, ◌^◌, ◌++◌, [], ◌∷◌, List, ℕ, false, length, OnOk};
-ghost use Rattle.journal.specs.Inside.{IsFollowed};
+//! Finds the lines in the bytes of a file while they are read.
+ghost use Rattle.std.specs.Prelude.{◌≡◌, ◌≤◌, ◌<◌, ◌+◌, ◌^◌, ◌++◌, [], ◌∷◌, List, ℕ, false, length, take, IfOk, OnOk};
+ghost use Rattle.std.specs.List.{AllByRecursion};
+ghost use Rattle.journal.specs.Inside.{IsFollowed, IsInner};
 
 use crate::{Ends, Machine};
 use journal_file::JournalFault;
+use memchr::memchr2;
 use std::alloc::Global;
 
-/// Knows where the parts of the bytes end that were read so far.
+/// Keeps what has to be known of the bytes that were read so far: where their parts end, and the line that has begun.
 #[derive(Drop)]
 pub struct Follower {
     pub(crate) ends: Ends,
-    /// The bytes of the text behind its last line feed.
+    /// The line that has begun, which is the text behind the last line feed.
     line: Vec<u8>,
-    /// A 0 was read.
+    /// Whether a 0 was read, with which the text ends.
     is_over: bool,
 }
 
 impl Follower {
-    /// Has read nothing.
+    /// Begins in front of the first byte of a file.
     pub(crate) fn new(alloc: Global) -> Follower
         ensures ends { (result.ends.whole ≡ 0) × (result.ends.text ≡ 0) × (result.ends.len ≡ 0) }
         ensures line { result.line.items ≡ [] }
@@ -34,8 +36,8 @@ impl Follower {
         }
     }
 
-    /// Takes the next bytes, and does what each line says that they end. Gives up as the machine does, or with
-    /// `Memory`.
+    /// Takes the next bytes of the file, and hands each line whose line feed is among them to the machine. Gives up as
+    /// the machine does, or with `Memory`.
     pub(crate) fn follow<M: Machine>(
         &mut self,
         machine: &mut M,
@@ -48,9 +50,84 @@ impl Follower {
         ensures follows { OnOk result ((bytes : List ℕ) (first : M) → IsFollowed M.moves bytes first machine.old self.old
             → IsFollowed M.moves (bytes ++ piece.now) first machine.new self.new) }
     {
-        for byte in piece {
-            self.push(machine, *byte)?;
+        let mut at = 0;
+        while at < piece.len() {
+            at += self.take_line(machine, &piece[at..])?;
         }
+        Ok(())
+    }
+
+    /// Takes the bytes up to the next 0 or line feed, with this one, or all bytes if there is none. Returns how many
+    /// they are. A line that lies whole in the bytes is handed to the machine where it lies. Gives up as `follow` does.
+    fn take_line<M: Machine>(
+        &mut self,
+        machine: &mut M,
+        bytes: &[u8],
+    ) -> Result<usize, JournalFault>
+        requires ready { M.IsReady machine.old }
+        requires order { self.old.ends.text ≤ self.old.ends.len }
+        requires fits { self.old.ends.len + length bytes.now < 2 ^ 64 }
+        requires some { 0 < length bytes.now }
+        ensures ready { OnOk result (M.IsReady machine.new) }
+        ensures order { OnOk result (self.new.ends.text ≤ self.new.ends.len) }
+        ensures some { IfOk result (λ n. 0 < n) }
+        ensures within { IfOk result (λ n. n ≤ length bytes.now) }
+        ensures len { IfOk result (λ n. self.new.ends.len ≡ self.old.ends.len + n) }
+        ensures follows { IfOk result (λ n. (read : List ℕ) (first : M) → IsFollowed M.moves read first machine.old self.old
+            → IsFollowed M.moves (read ++ take n bytes.now) first machine.new self.new) }
+    {
+        if self.is_over {
+            self.ends.len += bytes.len();
+            return Ok(bytes.len());
+        }
+        let n = inner(bytes);
+        if n == bytes.len() {
+            self.begin_line(bytes)?;
+            return Ok(n);
+        }
+        if bytes[n] == b'\n' && self.line.is_empty() {
+            self.do_line(machine, &bytes[..n])?;
+            return Ok(n + 1);
+        }
+        self.begin_line(&bytes[..n])?;
+        self.push(machine, bytes[n])?;
+        Ok(n + 1)
+    }
+
+    /// Puts bytes behind the line that has begun. Gives up with `Memory`.
+    fn begin_line(&mut self, bytes: &[u8]) -> Result<(), JournalFault>
+        requires order { self.old.ends.text ≤ self.old.ends.len }
+        requires fits { self.old.ends.len + length bytes.now < 2 ^ 64 }
+        ensures line { OnOk result (self.new.line.items ≡ self.old.line.items ++ bytes.now) }
+        ensures whole { OnOk result (self.new.ends.whole ≡ self.old.ends.whole) }
+        ensures text { OnOk result (self.new.ends.text ≡ self.old.ends.text + length bytes.now) }
+        ensures len { OnOk result (self.new.ends.len ≡ self.old.ends.len + length bytes.now) }
+        ensures over { OnOk result (self.new.is_over ≡ self.old.is_over) }
+    {
+        self.line.extend_from_slice(bytes)?;
+        self.ends.text += bytes.len();
+        self.ends.len += bytes.len();
+        Ok(())
+    }
+
+    /// Hands a line to the machine, where none has begun, and takes its bytes and its line feed.
+    fn do_line<M: Machine>(&mut self, machine: &mut M, line: &[u8]) -> Result<(), JournalFault>
+        requires ready { M.IsReady machine.old }
+        requires order { self.old.ends.text ≤ self.old.ends.len }
+        requires fits { self.old.ends.len + length line.now + 1 < 2 ^ 64 }
+        requires text { self.old.is_over ≡ false }
+        requires none { self.old.line.items ≡ [] }
+        requires inner { AllByRecursion IsInner line.now }
+        ensures ready { OnOk result (M.IsReady machine.new) }
+        ensures order { OnOk result (self.new.ends.text ≤ self.new.ends.len) }
+        ensures len { OnOk result (self.new.ends.len ≡ self.old.ends.len + length line.now + 1) }
+        ensures follows { OnOk result ((read : List ℕ) (first : M) → IsFollowed M.moves read first machine.old self.old
+            → IsFollowed M.moves (read ++ line.now ++ 10 ∷ []) first machine.new self.new) }
+    {
+        machine.apply(line)?;
+        self.ends.text += line.len() + 1;
+        self.ends.len += line.len() + 1;
+        self.ends.whole = self.ends.text;
         Ok(())
     }
 
@@ -81,5 +158,16 @@ impl Follower {
         self.line.clear();
         self.ends.whole = self.ends.text;
         Ok(())
+    }
+}
+
+/// Returns how many bytes stand in front of the first 0 or line feed, or how many there are.
+fn inner(bytes: &[u8]) -> usize
+    ensures within { result ≤ length bytes.now }
+    ensures inner { AllByRecursion IsInner (take result bytes.now) }
+{
+    match memchr2(0, b'\n', bytes) {
+        Some(place) => place,
+        None => bytes.len(),
     }
 }

@@ -5,14 +5,14 @@ use journal_file::JournalFault;
 
 /// A state that is made anew from the lines of a journal.
 pub trait Machine {
-    /// A line may be done.
+    /// The machine may be handed a line.
     ghost IsReady: { Self → Type 0 };
 
     /// The line may lead from the first state to the second.
     ghost moves: { List ℕ → Self → Self → Type 0 };
 
-    /// Does what a line says; its line feed isn't part of it. Gives up with `BadLine` if the line says nothing that can
-    /// be done, or with `Memory`.
+    /// Does what a line says, which is handed over without its line feed. Gives up with `BadLine` if the line says
+    /// nothing that can be done, or with `Memory`.
     fn apply(&mut self, line: &[u8]) -> Result<(), JournalFault>
         requires ready { IsReady self.old }
         ensures ready { OnOk result (IsReady self.new) }

@@ -9,13 +9,13 @@ use crate::{Ends, Machine};
 use journal_file::{JournalFault, Unread};
 use std::alloc::Global;
 
-/// A piece has so many bytes, and no more of the file is in memory at a time, apart from a line that has begun.
+/// The bytes of a piece. No more of the file is in memory at a time, apart from a line that has begun.
 const PIECE: usize = 1 << 16;
 
 const MAX_LEN: usize = 1 << 62;
 
-/// Reads a file to its end, and does what each line of its text says, in order. Returns where its parts end. Gives up
-/// with `Full` past 2^62 bytes, and as [`Unread::read_on`] and the machine do.
+/// Reads a file to its end, and hands each line of its text to the machine, in order. Returns where the parts of the
+/// file end. Gives up with `Full` past 2^62 bytes, and as [`Unread::read_on`] and the machine do.
 pub fn replay<U: Unread, M: Machine>(
     alloc: Global,
     unread: &mut U,

@@ -12,7 +12,7 @@ const CHUNK: usize = 1 << 20;
 
 const MAX_LEN: usize = 1 << 62;
 
-/// Says where the parts of a file end that was read.
+/// Says where the parts of a file end, all of which was read.
 #[derive(Clone, Copy, Debug, PartialEq, Eq)]
 pub struct Ends {
     /// Where the whole lines end.
@@ -159,8 +159,8 @@ impl<D: Device> Tape<D> {
         Ok(())
     }
 
-    /// Appends whole lines and syncs. A crash at any moment of the call leaves the lines from before it and the first
-    /// so many of the new ones, and from an `Ok` on all of them. Gives up as [`Tape::append`] does.
+    /// Appends whole lines and syncs. A crash at any moment of the call leaves the lines from before it, and the first
+    /// n of the new ones for some n. From an `Ok` on, it leaves all of them. Gives up as [`Tape::append`] does.
     pub fn commit(&mut self, group: &[u8]) -> Result<(), JournalFault>
         requires is_open { IsOpen D.seen D.may_leave self.old }
         requires acknowledged { self.old.synced ≡ self.old.end }

@@ -1,10 +1,10 @@
--- What a file was asked to do, with the answers: what it holds by then, and what a crash may leave of it.
+-- The calls that a file has had, with their answers: what the file holds after them, and what a crash may leave of it.
 use Rattle.std.specs.Prelude.{◌≡◌, ◌⊎◌, ℕ, ◌+◌, ◌-◌, ◌≤◌, true, false, List, [], ◌∷◌, ◌++◌, length, take, replicate}
 use Rattle.journal_file.specs.Device.{over, Mixes, Fades, IsFront}
 use Rattle.journal_file.specs.declared.record.Step.{Step}
 use Rattle.journal_file.specs.declared.record.Step.TheVariants.{Held, Wrote, Blanked, Grew, Synced, Replaced}
 
--- a call, and the bytes that it had
+-- a call, with the bytes that it read, wrote or put in the place of the file
 abbrev pub Call : Type 0
 Call = Step × List ℕ
 
@@ -38,7 +38,7 @@ abbrev pub left_after : List Call → List ℕ → Type 0
 left_after [] c = c ≡ []
 left_after (call ∷ earlier) c = (c ≡ seen_after (call ∷ earlier)) ⊎ left_step call.0 call.1 (seen_after earlier) (left_after earlier) c
 
--- 1 if a call failed
+-- 1 if the call failed, and 0 if it was done
 abbrev pub fault_of : Step → ℕ
 fault_of (Wrote at false) = 1
 fault_of (Blanked from false) = 1

@@ -21,7 +21,7 @@ Mixes (suc at) bytes [] new = ⊤
 Mixes (suc at) bytes (was ∷ old) [] = ⊥
 Mixes (suc at) bytes (was ∷ old) (is ∷ new) = (is ≡ was) × Mixes at bytes old new
 
--- the new file is the old one, in which each byte behind the first so many may be 0 instead
+-- the new file is the old one, in which each byte from an offset on may be 0 instead
 abbrev pub Fades : ℕ → List ℕ → List ℕ → Type 0
 Fades kept [] [] = ⊤
 Fades kept [] (is ∷ new) = ⊥
@@ -41,8 +41,8 @@ Follows step old new = (c : List ℕ) → new c → (d : List ℕ) × old d × s
 abbrev pub Only : List ℕ → (List ℕ → Type 0) → Type 0
 Only file may_leave = (c : List ℕ) → may_leave c → c ≡ file
 
--- A call took its time: a crash since an earlier moment might have left what it might have left before the call, or
--- what it may leave now.
+-- Time passes during a call. A crash since an earlier moment might have left what it might have left before the call,
+-- or what it may leave now.
 pub record Elapses (before now : ℕ) (past since : ℕ → List ℕ → Type 0) (may_leave : List ℕ → Type 0) : Type 0 where
   pub later : before ≤ now
   pub nothing_else : (t : ℕ) (c : List ℕ) → t ≤ before → since t c → past t c ⊎ may_leave c

@@ -5,7 +5,7 @@ use Rattle.std.proofs.Common.{inl, inr, refl, arith}
 use Rattle.journal_file.specs.Calls.{Call, seen_after, left_after, left_since}
 use Rattle.journal_file.specs.Memory.{HadBeen}
 
--- this moment is one of those since an earlier one
+-- what a crash may leave now counts among what it might have left since an earlier moment
 pub now_counts : (calls : List Call) (t : ℕ) (c : List ℕ) → left_after calls c → left_since calls t c
 now_counts [] t c now = now
 now_counts (call ∷ earlier) t c now = inl now
@@ -15,18 +15,18 @@ pub seen_left : (calls : List Call) → left_after calls (seen_after calls)
 seen_left [] = refl
 seen_left (call ∷ calls) = inl refl
 
--- since this moment there is no other
+-- since the last call, a crash leaves what it may leave now, and nothing else
 pub now_alone : (calls : List Call) (c : List ℕ) → left_since calls (length calls) c → left_after calls c
 now_alone [] c left = left
 now_alone (call ∷ earlier) c (inl now) = now
 now_alone (call ∷ earlier) c (inr before) = absurd (omega (arith, before.0))
 
--- no content is left behind the last one
+-- behind the last content there is no other one
 none_left : (past : List (Vec ℕ Global)) (c : List ℕ) → HadBeen (drop (length past) past) c → ⊥
 none_left [] c had = had
 none_left (content ∷ past) c had = none_left past c had
 
--- since this moment there is no other content
+-- since the last call, a crash leaves the content of now, and nothing else
 pub bytes_alone : (past : List (Vec ℕ Global)) (bytes c : List ℕ) → (c ≡ bytes) ⊎ HadBeen (drop (length past) past) c → c ≡ bytes
 bytes_alone past bytes c (inl now) = now
 bytes_alone past bytes c (inr had) = absurd (none_left past c had)

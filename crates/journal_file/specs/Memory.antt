@@ -8,7 +8,7 @@ use Rattle.journal_file.specs.declared.memory.UnreadMemory.{UnreadMemory}
 abbrev pub memory_bytes : Memory → List ℕ
 memory_bytes memory = memory.bytes.items
 
--- one of these contents was this
+-- these bytes are one of some contents
 abbrev pub HadBeen : List (Vec ℕ Global) → List ℕ → Type 0
 HadBeen [] bytes = ⊥
 HadBeen (content ∷ past) bytes = (bytes ≡ content.items) ⊎ HadBeen past bytes

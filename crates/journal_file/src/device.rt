@@ -15,7 +15,7 @@ pub trait Device {
     /// What a crash at this moment may leave.
     ghost may_leave: { Self → List ℕ → Type 0 };
 
-    /// The moment, a number that doesn't fall.
+    /// The moment of the last call, as a number that never falls.
     ghost moment: { Self → ℕ };
 
     /// What a crash at some moment from that one on might have left, during a call or between two.
@@ -41,7 +41,7 @@ pub trait Device {
         ensures time { Elapses (moment self.old) (moment self.new) (left_since self.old) (left_since self.new) (may_leave self.new) }
         ensures cause { HasCause (faults self.old) (faults self.new) result };
 
-    /// Adds so many zeros behind the end. Until a sync, a crash may leave any bytes there. Gives up as `write_at` does.
+    /// Adds `more` zeros behind the end. Until a sync, a crash may leave any bytes there. Gives up as `write_at` does.
     fn grow(&mut self, more: usize) -> Result<(), JournalFault>
         ensures grown { OnOk result (seen self.new ≡ seen self.old ++ replicate more 0) }
         ensures crash { Follows IsFront (may_leave self.old) (may_leave self.new) }
@@ -56,13 +56,13 @@ pub trait Device {
         ensures time { Elapses (moment self.old) (moment self.new) (left_since self.old) (left_since self.new) (may_leave self.new) }
         ensures cause { HasCause (faults self.old) (faults self.new) result };
 
-    /// This moment is one of those since an earlier one.
+    /// What a crash may leave now counts among what it might have left since an earlier moment.
     ghost counts_now: { (file : Self) (t : ℕ) (c : List ℕ) → t ≤ moment file → may_leave file c → left_since file t c };
 
     /// A crash may leave the bytes that the file has, as the end of a process does.
     ghost leaves_seen: { (file : Self) → may_leave file (seen file) };
 
-    /// Since this moment there is no other.
+    /// Since the last call, a crash leaves what it may leave now, and nothing else.
     ghost only_now: { (file : Self) (c : List ℕ) → left_since file (moment file) c → may_leave file c };
 }
 
@@ -90,11 +90,11 @@ pub trait Unread {
     /// No byte is left to be read.
     ghost IsRead: { Self → Type 0 };
 
-    /// The file that is to be written, if this was all of it.
+    /// The file that may be written once no byte of it is left to be read.
     ghost file: { Self → Self.File };
 
-    /// Reads the next bytes into the front of the buffer and returns how many they are: 0 at the end of the file, if
-    /// the buffer has a byte. Gives up with `Failed`.
+    /// Reads the next bytes into the front of the buffer, and returns how many they are. It returns 0 at the end of the
+    /// file, or if the buffer is empty. Gives up with `Failed`.
     fn read_on(&mut self, buffer: &mut [u8]) -> Result<usize, JournalFault>
         ensures fits { IfOk result (λ n. n ≤ length buffer.new) }
         ensures length { length buffer.new ≡ length buffer.old }

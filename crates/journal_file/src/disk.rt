@@ -18,7 +18,7 @@ const PAGE: usize = 1 << 16;
 
 static ZEROS: [u8; PAGE] = [0; PAGE];
 
-/// A name in a folder. A file that is renamed stays there once the folder is synced.
+/// The name of a file, and the folder that it stands in. A renaming is on the disk once the folder is synced.
 #[derive(Drop)]
 pub(crate) struct Place {
     pub runtime: HostRuntime,
@@ -46,7 +46,7 @@ impl UnreadDisk {
             place,
             len: 0,
             is_read: false,
-            log: Record::new(),
+            log: Record::of_read(&[]),
         }
     }
 }
@@ -64,7 +64,8 @@ impl Unread for UnreadDisk {
         let Ok(n) = self.file.read(buffer) else {
             return Err(JournalFault::Failed);
         };
-        self.log = Record::with(&self.log, &Step::Held, &buffer[..n]);
+        let read = Record::of_read(&buffer[..n]);
+        self.log = Record::with(&self.log, &Step::Held, &read);
         self.len = self.len.saturating_add(n);
         if n == 0 && !buffer.is_empty() {
             self.is_read = true;
@@ -73,7 +74,8 @@ impl Unread for UnreadDisk {
     }
 
     fn into_device(self) -> Disk {
-        let log = Record::with(&self.log, &Step::Held, &[]);
+        let nothing = Record::of_read(&[]);
+        let log = Record::with(&self.log, &Step::Held, &nothing);
         Disk {
             file: self.file,
             place: self.place,
@@ -101,7 +103,8 @@ impl Disk {
     fn note(&mut self, step: Step, bytes: &[u8])
         ensures noted { self.new.log.calls ≡ (step, bytes.now) ∷ self.old.log.calls }
     {
-        self.log = Record::with(&self.log, &step, bytes);
+        let content = Record::of_read(bytes);
+        self.log = Record::with(&self.log, &step, &content);
     }
 }
 
@@ -228,11 +231,11 @@ impl Replace for Disk {
     fn replace(&mut self, next: Disk) -> Result<(), JournalFault> {
         if take_place(&self.place, &next.place).is_err() {
             let step = Step::Replaced { is_done: false };
-            self.log = Record::with_next(&self.log, &next.log, &step);
+            self.log = Record::with(&self.log, &step, &next.log);
             return Err(JournalFault::Failed);
         }
         let step = Step::Replaced { is_done: true };
-        self.log = Record::with_next(&self.log, &next.log, &step);
+        self.log = Record::with(&self.log, &step, &next.log);
         self.file = next.file;
         self.len = next.len;
         Ok(())

@@ -1,4 +1,4 @@
-//! Why a call gave up.
+//! The reasons why a call gives up.
 ghost use Rattle.std.specs.Prelude.{◌≡◌};
 ghost use Rattle.journal_file.specs.declared.fault.JournalFault.TheVariants.{Memory};
 
@@ -17,7 +17,7 @@ pub enum JournalFault {
     Locked,
     /// The file is no journal: no zero stands behind its text.
     NoJournal,
-    /// A line doesn't say what a line here has to say.
+    /// The machine that does the lines of a journal can't do this one.
     BadLine,
 }
 

@@ -1,5 +1,5 @@
-//! A file in memory. Each call is done at once, so a crash leaves what is there. It keeps each content that it had, so
-//! that its clauses can speak of all moments.
+//! A file in memory. Each call is done at once, so a crash leaves what is there. The file keeps each content that it
+//! has had, so that its clauses can speak of all moments.
 ghost use Rattle.std.specs.Prelude.{◌≡◌, ◌⊎◌, ◌≤◌, ◌+◌, ◌-◌, ◌++◌, [], ◌∷◌, length, take, drop, replicate, IfOk, OnOk, OnErr};
 ghost use Rattle.std.proofs.Common.{inl, refl};
 ghost use Rattle.journal_file.specs.Laws.{bytes_alone};

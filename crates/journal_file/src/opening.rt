@@ -10,7 +10,7 @@ use std::io::{self, ErrorKind};
 use std::os::unix::fs::MetadataExt;
 use std::path::PathBuf;
 
-/// So many zeros a file is made with.
+/// The count of zeros that a new file is made of.
 const ROOM: usize = 1 << 16;
 
 impl From<io::Error> for JournalFault {

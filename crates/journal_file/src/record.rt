@@ -1,8 +1,8 @@
-//! What a file was asked to do and what it answered: a list that only clauses read. It takes no memory.
+//! A list of the calls that a file has had, with their answers. Only clauses read it, so it takes no memory.
 ghost use Rattle.std.specs.Prelude.{◌≡◌, List, [], ◌∷◌, Bool};
 ghost use Rattle.std.specs.Borrow.{ftrue};
 ghost use Rattle.journal_file.specs.Calls.{Call, seen_after};
-ghost use Rattle.journal_file.specs.declared.record.Step.TheVariants.{Replaced};
+ghost use Rattle.journal_file.specs.declared.record.Step.TheVariants.{Held};
 
 use std::marker::Model;
 
@@ -29,22 +29,17 @@ impl Model for Record {
 }
 
 impl Record {
-    pub(crate) fn new() -> Record
-        ensures { result.calls ≡ [] }
+    /// Returns the list of a single call, which read these bytes.
+    pub(crate) fn of_read(_bytes: &[u8]) -> Record
+        ensures { result.calls ≡ (Held, _bytes.now) ∷ [] }
     {
         Record {}
     }
 
-    /// Returns the list with one call more.
-    pub(crate) fn with(_before: &Record, _step: &Step, _bytes: &[u8]) -> Record
-        ensures { result.calls ≡ (_step.now, _bytes.now) ∷ _before.now.calls }
-    {
-        Record {}
-    }
-
-    /// Returns the list with one call more: the file that the second list is about was given the place.
-    pub(crate) fn with_next(_before: &Record, _next: &Record, _step: &Step) -> Record
-        ensures { result.calls ≡ (_step.now, seen_after _next.now.calls) ∷ _before.now.calls }
+    /// Returns a list with one call more. The bytes of this call are those that a file has after the calls of
+    /// `_content`.
+    pub(crate) fn with(_before: &Record, _step: &Step, _content: &Record) -> Record
+        ensures { result.calls ≡ (_step.now, seen_after _content.now.calls) ∷ _before.now.calls }
     {
         Record {}
     }

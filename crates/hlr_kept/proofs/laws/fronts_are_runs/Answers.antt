@@ -1,5 +1,5 @@
-use Rattle.hlr_kept.proofs.RunLemmas.{some_events}
+use Rattle.hlr_kept.proofs.RunLemmas.{some_orders}
 use Rattle.hlr_kept.proofs.laws.fronts_are_runs.Goals as goal
 
 pub returns : goal.returns
-returns c = some_events
+returns c = some_orders

@@ -4,5 +4,5 @@ use Rattle.hlr_kept.proofs.KeptLemmas.{all_written}
 use Rattle.hlr_kept.proofs.laws.written_is_kept.Goals as goal
 
 pub returns : goal.returns
-returns c = λ stored events register held group written was begun rows.
-    all_written stored events register held group written (written ++ lines group) was begun rows refl
+returns c = λ stored orders register answers group written was begun rows.
+    all_written stored orders register answers group written (written ++ lines group) was begun rows refl

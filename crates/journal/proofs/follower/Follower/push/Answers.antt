@@ -1,21 +1,21 @@
-use Rattle.std.proofs.Common.{rules}
+use Rattle.std.proofs.Common.{[], ◌∷◌, rules}
 use Rattle.journal.proofs.FollowLemmas.{followed_over, followed_zero, followed_other, followed_feed}
 use Rattle.journal.proofs.follower.Follower.push.Goals as goal
 
 pub returns-then-self-clause-follows : goal.returns-then-self-clause-follows
 returns-then-self-clause-follows g c = λ bytes first was.
-    followed_over g.M.Machine.moves bytes first c.args.machine.now c.args.self.now was c.args.byte c.if-self.true
+    followed_over g.M.Machine.moves bytes first c.args.machine.now c.args.self.now.ends c.args.self.now.line.items c.args.self.now.is_over was (c.args.byte ∷ []) c.if-self.true
 
 pub returns-then-byte-eq0-clause-follows : goal.returns-then-byte-eq0-clause-follows
 returns-then-byte-eq0-clause-follows g c = λ bytes first was.
-    followed_zero g.M.Machine.moves bytes first c.args.machine.now c.args.self.now was c.args.byte c.if-self.false c.if-byte-eq0.true
+    followed_zero g.M.Machine.moves bytes first c.args.machine.now c.args.self.now.ends c.args.self.now.line.items c.args.self.now.is_over was c.args.byte c.if-self.false c.if-byte-eq0.true
 
 pub returns-then-byte-ne10-clause-follows : goal.returns-then-byte-ne10-clause-follows
 returns-then-byte-ne10-clause-follows g c = λ bytes first was.
-    followed_other g.M.Machine.moves bytes first c.args.machine.now c.args.self.now was c.args.byte c.if-self.false c.if-byte-eq0.false
-    c.push.new.self (search rules) c.if-byte-ne10.true
+    followed_other g.M.Machine.moves bytes first c.args.machine.now c.args.self.now.ends c.args.self.now.line.items c.args.self.now.is_over was c.args.byte c.if-self.false c.if-byte-eq0.false
+    c.push.new.self.items (search rules) c.if-byte-ne10.true
 
 pub returns-clause-follows : goal.returns-clause-follows
 returns-clause-follows g c = λ bytes first was.
-    followed_feed g.M.Machine.moves bytes first c.args.machine.now c.args.self.now was c.args.byte c.if-self.false c.if-byte-eq0.false
-    c.clear.new.self (search rules) c.if-byte-ne10.false c.apply.new.self (search rules)
+    followed_feed g.M.Machine.moves bytes first c.args.machine.now c.args.self.now.ends c.args.self.now.line.items c.args.self.now.is_over was c.args.byte c.if-self.false c.if-byte-eq0.false
+    c.clear.new.self.items (search rules) c.if-byte-ne10.false c.apply.new.self (search rules)

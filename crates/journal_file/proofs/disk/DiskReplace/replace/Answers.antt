@@ -6,4 +6,4 @@ use Rattle.journal_file.proofs.disk.DiskReplace.replace.Goals as goal
 pub returns-then-is_err-clause-crash : goal.returns-then-is_err-clause-crash
 returns-then-is_err-clause-crash c =
     λ f left. replaced_leaves c.args.self.now.log.calls false (seen_after c.args.next.log.calls) f
-    (subst (λ (l : List Call). left_after l f) c.with_next-self.ensures left)
+    (subst (λ (l : List Call). left_after l f) c.with-self.ensures left)

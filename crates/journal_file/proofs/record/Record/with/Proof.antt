@@ -1,5 +1,5 @@
 -- By hand: a record of no bytes is made, whose ghost list is the one that the clause names.
-use Rattle.std.proofs.Common.{List, [], ◌∷◌, ◌++◌, ◌<◌, ◌^◌, length, refl}
+use Rattle.std.proofs.Common.{List, [], ◌∷◌, ◌++◌, refl}
 use seplogic.Ra.Ura.{Ura}
 use mir.Syntax.{named}
 use mir.Val.{Val, vptr, vstruct, vnil}
@@ -19,14 +19,13 @@ use types.ByLocal.{alloc_all, pass_all, free_all, look_at, sets}
 use denote.Exit.{yes}
 use denote.RattleType.{owns}
 use denote.Ref.{shr_vals, shr_Tells}
-use denote.Builtin.{u8}
-use denote.Slice.{slice_val, shr_slice_vals, shr_slice_Tells}
 use denote.Shadow.{pure_i}
 use denote.Signature.{plain, types_at}
 use denote.Triple.Entry.{on_entry, alive, Args}
 use denote.Triple.Spec.{Meets, triple_of}
 use denote.Triple.Table.{entered}
-use denote.Triple.Walked.{says, stay_none_ref, stay_none_slice, Stays, walk_of, Walks, ends_at, walked, Goes-none_ref, Goes-none_slice, walk_Meets}
+use denote.Triple.Walked.{says, stay_none_ref, Stays, walk_of, Walks, ends_at, walked, Goes-none_ref, walk_Meets}
+use Rattle.journal_file.specs.Calls.{seen_after}
 use Rattle.journal_file.specs.declared.record.Record.{Record}
 use Rattle.journal_file.specs.contracts.record.Record as row
 use Rattle.journal_file.specs.contracts.record.Step as step
@@ -38,7 +37,7 @@ use Rattle.journal_file.proofs.record.Record.with.Code as code
 abbrev stayed : Stays (told.ended).signature.params (told.ended).kept
 stayed = (
   stay_none_ref (0 ∷ []) tt (plain (λ _. row.the_row)) yes,
-  (stay_none_ref (1 ∷ []) tt (plain (λ _. step.the_row)) yes, (stay_none_slice (2 ∷ []) tt (plain (λ _. u8)) yes, tt)),
+  (stay_none_ref (1 ∷ []) tt (plain (λ _. step.the_row)) yes, (stay_none_ref (2 ∷ []) tt (plain (λ _. row.the_row)) yes, tt)),
 )
 
 module _ {M : Type 1} {𝓤 : Ura M} (𝓛 : Logic 𝓤) (mem : Memory → SProp 𝓤) (run : Routine → Fun 𝓤) (C : Calls 𝓤 𝓛.H) (Λ : Loops 𝓤 𝓛.H) where
@@ -46,36 +45,36 @@ module _ {M : Type 1} {𝓤 : Ura M} (𝓛 : Logic 𝓤) (mem : Memory → SProp
 
   module _ (κs : Lfts 3) (qs : Shares 3) (a : Args told.signature κs) where
     abbrev at : List Val × (List Val × (List Val × Unit {0}))
-    at = (vptr a.0.ref_ptr.0 a.0.ref_ptr.1 ∷ [], (vptr a.1.0.ref_ptr.0 a.1.0.ref_ptr.1 ∷ [], (slice_val a.1.1.0.ref_ptr (length a.1.1.0.now) ∷ [], tt)))
+    at = (vptr a.0.ref_ptr.0 a.0.ref_ptr.1 ∷ [], (vptr a.1.0.ref_ptr.0 a.1.0.ref_ptr.1 ∷ [], (vptr a.1.1.0.ref_ptr.0 a.1.1.0.ref_ptr.1 ∷ [], tt)))
 
     abbrev made : Record
-    made = record { calls = (a.1.0.now, a.1.1.0.now) ∷ a.0.now.calls }
+    made = record { calls = (a.1.0.now, seen_after a.1.1.0.now.calls) ∷ a.0.now.calls }
 
     abbrev bound : (walk_of 𝓛 told.ended stayed (told.clauses 𝓛 mem run)).Ghost
     bound = ((κs, qs, tt, a, at), tt)
 
-    walk : length a.1.1.0.now < 2 ^ 64 → ent 𝓤 (on_entry 𝓛 told.signature κs qs a at)
+    walk : ent 𝓤 (on_entry 𝓛 told.signature κs qs a at)
         (WpFn 𝓤 H C Λ code.function (at.0 ++ at.1.0 ++ at.1.1.0) ((walk_of 𝓛 told.ended stayed (told.clauses 𝓛 mem run)).post bound))
-    walk fits =
+    walk =
         qed 𝓛 (raw (alive 𝓛 told.signature κs qs) ∷ ‵ (owns (types_at told.signature.params κs) a at) ∷ []) ∵
         enter ! C Λ code.function (at.0 ++ at.1.0 ++ at.1.1.0) _ $
-        alloc_all ! (λ l. pass_all ! refl ((tt, tt), ((tt, tt), ((tt, (tt, (record { fits = fits }, tt))), tt))) $ sets ! (agg ! (no_more !)) refl (tt, tt) $
+        alloc_all ! (λ l. pass_all ! refl ((tt, tt), ((tt, tt), ((tt, tt), tt))) $ sets ! (agg ! (no_more !)) refl (tt, tt) $
         returns ! (look_at ! 0 refl) $ free_all ! refl $
         suffices ! _ (ends_at 𝓛 told.ended stayed (told.clauses 𝓛 mem run) bound (vstruct vnil) made (tt, (tt, (tt, tt))) (tt, (tt, (tt, tt)))) $ says ! refl $
         pure_i ! (row.the_row.own_val made (vstruct vnil ∷ [])) ((λ vss. (tt, tt)), tt) ((tt, (refl, tt)), tt) $ move ! (1 ∷ 2 ∷ 0 ∷ []) $ done !)
 
   walks : Walks 𝓛 told.ended stayed (WpFn 𝓤 H C Λ code.function) (told.clauses 𝓛 mem run)
   walks =
-      walked 𝓛 told.ended stayed (told.clauses 𝓛 mem run) (WpFn 𝓤 H C Λ code.function) (λ κs. (shr_vals, (shr_vals, (shr_slice_vals, tt))))
-      (λ κs. (shr_Tells (named 0) κs.0 row.the_row, (shr_Tells (named 1) κs.1.0 step.the_row, (shr_slice_Tells (named 2) κs.1.1.0 u8, tt))))
-      (λ κs qs bounds a g are. via 𝓤 _ (fst∗ 𝓤 _ (emp 𝓤)) (walk κs qs a are.1.1.0.0.1.0))
+      walked 𝓛 told.ended stayed (told.clauses 𝓛 mem run) (WpFn 𝓤 H C Λ code.function) (λ κs. (shr_vals, (shr_vals, (shr_vals, tt))))
+      (λ κs. (shr_Tells (named 0) κs.0 row.the_row, (shr_Tells (named 1) κs.1.0 step.the_row, (shr_Tells (named 2) κs.1.1.0 row.the_row, tt))))
+      (λ κs qs bounds a g are. via 𝓤 _ (fst∗ 𝓤 _ (emp 𝓤)) (walk κs qs a))
 
 meets : {M : Type 1} {𝓤 : Ura M} (𝓛 : Logic 𝓤) (mem : Memory → SProp 𝓤) (run : Routine → Fun 𝓤) (𝓣 : Tables 𝓤 𝓛.H)
     → Meets 𝓛 told.signature (WpFn 𝓤 𝓛.H 𝓣.C 𝓣.Λ code.function) (told.spec 𝓛 mem run)
 meets {𝓤 = 𝓤} 𝓛 mem run 𝓣 =
     walk_Meets 𝓛 told.ended stayed (
       Goes-none_ref 𝓛 3 (0 ∷ []) tt (plain (λ _. row.the_row)) yes,
-      (Goes-none_ref 𝓛 3 (1 ∷ []) tt (plain (λ _. step.the_row)) yes, (Goes-none_slice 𝓛 3 (2 ∷ []) tt (plain (λ _. u8)) yes, tt)),
+      (Goes-none_ref 𝓛 3 (1 ∷ []) tt (plain (λ _. step.the_row)) yes, (Goes-none_ref 𝓛 3 (2 ∷ []) tt (plain (λ _. row.the_row)) yes, tt)),
     ) (told.clauses 𝓛 mem run) (WpFn 𝓤 𝓛.H 𝓣.C 𝓣.Λ code.function)
     (WpFn-mono 𝓤 𝓛.H 𝓛.laws 𝓣 code.function) (walks 𝓛 mem run 𝓣.C 𝓣.Λ)
 

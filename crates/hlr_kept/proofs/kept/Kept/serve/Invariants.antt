@@ -1,0 +1,15 @@
+use Rattle.std.proofs.Common.{◌≡◌, List, ◌++◌, take}
+use Rattle.hlr_owners.specs.Store.{Store}
+use Rattle.hlr_core.specs.declared.order.Order.{Order}
+use Rattle.hlr_kept.specs.UnderWay.{AreHeld, IsReady}
+use Rattle.hlr_kept.proofs.kept.Kept.serve.Given as goal
+
+abbrev pub invariant-loop-order : goal.invariant-loop-order
+invariant-loop-order g l =
+    let seen = g.D.Device.seen in
+    let may_leave = g.D.Device.may_leave in
+    record {
+      ready : IsReady seen may_leave l.self.journaled;
+      held : (stored : Store) (earlier : List Order) → AreHeld seen may_leave stored earlier l.fn.self → AreHeld seen may_leave stored (earlier ++ take l.order-index l.orders) l.self;
+      tape : l.self.journaled.tape ≡ l.fn.self.journaled.tape;
+    }

@@ -1,0 +1,162 @@
+//! A register with the journal that keeps it.
+ghost use Rattle.std.specs.Prelude.{◌≡◌, ◌⊎◌, ◌≤◌, ◌+◌, ◌++◌, [], ◌∷◌, List, None, Some, Ok, Err, true, length, vec_len, vec_capacity, IfErr, IfOk, IfSome, OnErr, OnOk};
+ghost use Rattle.journal_file.specs.Device.{LeavesOnly};
+ghost use Rattle.journal.specs.Lines.{HasFence};
+ghost use Rattle.edit_lines.specs.Lines.{has_line, is_change};
+ghost use Rattle.hlr_owners.specs.Owners.{store_in};
+ghost use Rattle.hlr_owners.specs.Recut.{IsRecut};
+ghost use Rattle.hlr_owners.specs.Store.{Store};
+ghost use Rattle.hlr_core.specs.Run.{IsOrderStep};
+ghost use Rattle.hlr_core.specs.Step.{IsStep};
+ghost use Rattle.hlr_core.specs.declared.order.Answer.{Answer};
+ghost use Rattle.hlr_core.specs.declared.order.Answer.TheVariants as answer;
+ghost use Rattle.hlr_core.specs.declared.order.Order.{Order};
+ghost use Rattle.hlr_core.specs.declared.order.Order.TheVariants as order;
+ghost use Rattle.hlr_kept.specs.Runs.{StandsAfterSome, line_bytes, tells_done};
+ghost use Rattle.hlr_kept.specs.UnderWay.{IsReady, IsUnchanged, IsUnderWay};
+
+use crate::restoring::tells_done;
+use crate::writing::write;
+use edit_lines::{LONGEST, push_line};
+use hlr_core::{Answer, Event, Order, Refusal, Register, Reply};
+use journal::{Device, JournalFault, Tape};
+
+/// Keeps a register in a journal. An answer may be handed out once a sync that comes after it has returned `Ok`,
+/// because from then on no crash takes it back. After a sync that gave up, each call that returns a `JournalFault`
+/// returns that one, until the file is opened again.
+#[derive(Drop)]
+pub struct Journaled<D: Device> {
+    pub(crate) register: Register,
+    pub(crate) tape: Tape<D>,
+    /// The lines that are yet to be written.
+    pub(crate) group: Vec<u8>,
+    /// Why a sync gave up, if one did.
+    pub(crate) fault: Option<JournalFault>,
+}
+
+/// Puts the line of an event behind the others, if it was answered `Done`. There is room for it.
+fn put_line(group: &mut Vec<u8>, event: &Event, reply: &Reply)
+    requires room { vec_len group.old + 44 ≤ vec_capacity group.old }
+    requires change { tells_done reply.now ≡ true → is_change event.now ≡ true }
+    ensures items { group.new.items ≡ group.old.items ++ line_bytes (order.Event event.now) (answer.Reply reply.now) }
+    ensures fits { tells_done reply.now ≡ true → has_line event.now ≡ true }
+{
+    if tells_done(reply) {
+        let _ = push_line(group, event);
+    }
+}
+
+impl<D: Device> Journaled<D> {
+    /// Applies an event, as `Register::apply` does, and puts its line behind those that are yet to be written if the
+    /// reply is `Done`. Gives up with the fault of an earlier sync, or with `Memory`, and then nothing has changed.
+    pub fn apply(&mut self, event: Event) -> Result<Reply, JournalFault>
+        requires ready { IsReady D.seen D.may_leave self.old }
+        ensures ready { IsReady D.seen D.may_leave self.new }
+        // The reply is right, and the event joins those that are under way.
+        ensures step { IfOk result (λ reply. IsStep event (store_in self.old.register) reply (store_in self.new.register)) }
+        ensures ahead { IfOk result (λ reply. (stored : Store) (orders : List Order) (answers : List Answer)
+            → IsUnderWay D.seen D.may_leave stored orders answers self.old
+            → IsUnderWay D.seen D.may_leave stored (orders ++ order.Event event ∷ []) (answers ++ answer.Reply reply ∷ []) self.new) }
+        ensures tape { self.new.tape ≡ self.old.tape }
+        ensures refused { OnErr result (IsUnchanged self.old self.new) }
+        ensures cause { IfErr result (λ why. (self.old.fault ≡ Some why) ⊎ (why ≡ JournalFault.Memory)) }
+    {
+        if let Some(fault) = self.fault {
+            return Err(fault);
+        }
+        if self.group.reserve(LONGEST).is_err() {
+            return Err(JournalFault::Memory);
+        }
+        let reply = self.register.apply(event);
+        put_line(&mut self.group, &event, &reply);
+        Ok(reply)
+    }
+
+    /// Moves the bounds between the parts, as `Register::recut_to` does. No row changes, so no line is written.
+    pub fn recut_to(&mut self, bounds: &[u64]) -> Result<u8, Refusal>
+        requires ready { IsReady D.seen D.may_leave self.old }
+        ensures ready { IsReady D.seen D.may_leave self.new }
+        ensures recut { IsRecut bounds.now (store_in self.old.register) result (store_in self.new.register) }
+        ensures ahead { (stored : Store) (orders : List Order) (answers : List Answer)
+            → IsUnderWay D.seen D.may_leave stored orders answers self.old
+            → IsUnderWay D.seen D.may_leave stored (orders ++ order.Recut (record { items = bounds.now }) ∷ []) (answers ++ answer.Recut result ∷ []) self.new }
+        ensures tape { self.new.tape ≡ self.old.tape }
+        ensures group { self.new.group.items ≡ self.old.group.items }
+        ensures fault { self.new.fault ≡ self.old.fault }
+    {
+        self.register.recut_to(bounds)
+    }
+
+    /// Carries an order out: it applies an event, or moves the bounds. Gives up as [`Journaled::apply`] does.
+    pub fn carry_out(&mut self, order: &Order) -> Result<Answer, JournalFault>
+        requires ready { IsReady D.seen D.may_leave self.old }
+        ensures ready { IsReady D.seen D.may_leave self.new }
+        ensures step { IfOk result (λ told. IsOrderStep order.now (store_in self.old.register) told (store_in self.new.register)) }
+        ensures ahead { IfOk result (λ told. (stored : Store) (orders : List Order) (answers : List Answer)
+            → IsUnderWay D.seen D.may_leave stored orders answers self.old
+            → IsUnderWay D.seen D.may_leave stored (orders ++ order.now ∷ []) (answers ++ told ∷ []) self.new) }
+        ensures tape { self.new.tape ≡ self.old.tape }
+        ensures refused { OnErr result (IsUnchanged self.old self.new) }
+        ensures cause { IfErr result (λ why. (self.old.fault ≡ Some why) ⊎ (why ≡ JournalFault.Memory)) }
+    {
+        if let Some(fault) = self.fault {
+            return Err(fault);
+        }
+        match order {
+            Order::Event(event) => match self.apply(*event) {
+                Ok(reply) => Ok(Answer::Reply(reply)),
+                Err(fault) => Err(fault),
+            },
+            Order::Recut(bounds) => Ok(Answer::Recut(self.recut_to(bounds.as_slice()))),
+        }
+    }
+
+    /// Writes the lines of the events that were answered `Done` since the last sync, and syncs. From an `Ok` on, all
+    /// answers so far may be handed out. A crash at any moment of the call leaves the rows after the first so many of
+    /// the orders that were under way, and no row of what came before them is lost. If there is nothing to write, the
+    /// call does nothing to the file. Gives up as `Tape::commit` does.
+    pub fn sync(&mut self) -> Result<(), JournalFault>
+        requires ready { IsReady D.seen D.may_leave self.old }
+        ensures ready { IsReady D.seen D.may_leave self.new }
+        ensures settled { OnOk result ((stored : Store) (orders : List Order) (answers : List Answer)
+            → IsUnderWay D.seen D.may_leave stored orders answers self.old
+            → IsUnderWay D.seen D.may_leave (store_in self.new.register) [] [] self.new) }
+        ensures written { OnOk result (self.new.group.items ≡ []) }
+        ensures register { self.new.register ≡ self.old.register }
+        ensures any_moment { (stored : Store) (orders : List Order) (answers : List Answer)
+            → IsUnderWay D.seen D.may_leave stored orders answers self.old
+            → LeavesOnly D.moment D.left_since self.old.tape.device self.new.tape.device
+            (λ c. HasFence c × StandsAfterSome orders answers stored c) }
+        // With nothing to write, the file isn't touched.
+        ensures idle { self.old.group.items ≡ [] → self.old.fault ≡ None → (result ≡ Ok tt) × (self.new ≡ self.old) }
+        ensures broken { IfErr result (λ why. self.new.fault ≡ Some why) }
+        ensures stays { IfSome self.old.fault (λ why. (result ≡ Err why) × (self.new ≡ self.old)) }
+    {
+        if let Some(fault) = self.fault {
+            return Err(fault);
+        }
+        if self.group.is_empty() {
+            return Ok(());
+        }
+        if let Err(fault) = write(&mut self.tape, &self.group) {
+            self.fault = Some(fault);
+            return Err(fault);
+        }
+        self.group.clear();
+        Ok(())
+    }
+
+    /// Returns the register, whose rows have what isn't synced too.
+    pub fn register(&self) -> &Register
+        ensures { result.now ≡ self.now.register }
+    {
+        &self.register
+    }
+
+    /// Returns how many bytes of lines are yet to be written. If it is 0, all that was answered is on the disk.
+    pub fn unsynced(&self) -> usize
+        ensures { result ≡ length self.now.group.items }
+    {
+        self.group.len()
+    }
+}
