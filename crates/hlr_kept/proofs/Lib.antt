@@ -1,5 +1,10 @@
 pub mod BeginLemmas
+pub mod DraftLemmas
 pub mod EventLemmas
 pub mod GroupLemmas
 pub mod KeptLemmas
+pub mod PageLemmas
+pub mod ReadingLemmas
+pub mod RuleLemmas
 pub mod RunLemmas
+pub mod SnapshotLemmas

@@ -1,3 +1,5 @@
+pub mod Draft
 pub mod Laws
 pub mod Rows
 pub mod Runs
+pub mod Snapshot

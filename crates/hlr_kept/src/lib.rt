@@ -10,12 +10,16 @@
 //! [`write`] returned `Ok`.
 #![tactic(auto)]
 
+mod draft;
 mod laws;
 mod restoring;
+mod snapshots;
+mod table_rows;
 mod writing;
 
 pub use laws::{
     applied_is_ahead, crashes_leave_runs, fronts_are_runs, redone_is_right, written_is_kept,
 };
 pub use restoring::{redo, tells_done};
+pub use snapshots::{compact, snapshot, snapshots_stand_for_books};
 pub use writing::{begin, write};
