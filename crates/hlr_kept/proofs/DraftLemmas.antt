@@ -3,6 +3,7 @@ use Rattle.std.proofs.Common.{◌≡◌, ◌∙◌, refl, sym, ap, subst, ℕ, �
 use Rattle.std.proofs.lemmas.List.{append-nil}
 use Rattle.std.specs.List.{AllByRecursion}
 use Rattle.journal.specs.Lines.{HasNoZero, IsWhole, lines, recovered, text}
+use Rattle.journal.specs.Machine.{Runs}
 use Rattle.journal.specs.Tape.{IsOpen}
 use Rattle.journal.specs.declared.tape.Tape.{Tape}
 use Rattle.journal.proofs.LineLemmas.{whole_lines, whole-append}
@@ -11,6 +12,12 @@ use Rattle.edit_lines.specs.Lines.{first_line}
 use Rattle.hlr_kept.specs.Draft.{IsDraft, draft_bytes, draft_lines}
 use Rattle.hlr_kept.specs.declared.draft.Draft.{Draft}
 use Rattle.hlr_kept.proofs.GroupLemmas.{one_line}
+
+-- where no line can be done, there is none
+pub no_lines : {M : Type 0} (moves : List ℕ → M → M → Type 0) → ((line : List ℕ) (a b : M) → moves line a b → ⊥) → (written : List (List ℕ)) (before after : M) → Runs moves written before after
+    → written ≡ []
+no_lines moves none [] before after run = refl
+no_lines moves none (line ∷ written) before after run = absurd (none line before run.0 run.1)
 
 module _ {D : Type 0} (seen : D → List ℕ) (may_leave : D → List ℕ → Type 0) where
   -- a draft, and the lines that it has

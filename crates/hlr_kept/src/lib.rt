@@ -10,6 +10,7 @@
 //! [`write`] returned `Ok`.
 #![tactic(auto)]
 
+mod blank_tape;
 mod draft;
 mod laws;
 mod restoring;
@@ -17,6 +18,7 @@ mod snapshots;
 mod table_rows;
 mod writing;
 
+pub use blank_tape::blank;
 pub use laws::{
     applied_is_ahead, crashes_leave_runs, fronts_are_runs, redone_is_right, written_is_kept,
 };
