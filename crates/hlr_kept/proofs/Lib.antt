@@ -1,8 +1,13 @@
 pub mod BeginLemmas
+pub mod DraftLemmas
 pub mod EventLemmas
 pub mod GroupLemmas
 pub mod HeldLemmas
 pub mod KeptLemmas
+pub mod PageLemmas
+pub mod ReadingLemmas
 pub mod RestoredLemmas
+pub mod RuleLemmas
 pub mod RunLemmas
+pub mod SnapshotLemmas
 pub mod UnderWayLemmas

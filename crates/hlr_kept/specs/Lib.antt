@@ -1,5 +1,7 @@
+pub mod Draft
 pub mod Laws
 pub mod Restored
 pub mod Rows
 pub mod Runs
+pub mod Snapshot
 pub mod UnderWay

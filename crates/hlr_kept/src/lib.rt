@@ -18,15 +18,20 @@
 //! ```
 #![tactic(auto)]
 
+mod blank_tape;
+mod draft;
 mod journaled;
 mod kept;
 mod laws;
 mod opening;
 mod restoring;
+mod snapshots;
+mod table_rows;
 #[cfg(test)]
 mod tests;
 mod writing;
 
+pub use blank_tape::blank;
 pub use journaled::Journaled;
 pub use kept::Kept;
 pub use laws::{
@@ -35,4 +40,5 @@ pub use laws::{
 };
 pub use opening::open;
 pub use restoring::{redo, tells_done};
+pub use snapshots::{compact, snapshot, snapshots_stand_for_books};
 pub use writing::{begin, write};
