@@ -25,7 +25,7 @@ pub use Rattle.mr_node.specs.Entries.{IsFree, IsThere}
 pub use Rattle.mr_node.specs.EntryLists.{AreEntries, AreKeyed, IsPacked, IsPadded, entries, no_key, somes}
 pub use Rattle.mr_node.specs.Folds.{FoldsRows, WalksRows}
 pub use Rattle.mr_node.specs.Growth.{IsGrown, IsRoomAnswer, is_done}
-pub use Rattle.mr_node.specs.Inside.{AreChildrenBeside, ArePairChildren, IsLooseAt, IsPairAt, IsRoomAt, IsSplicedAt, IsSplitAt, IsWholeAgain}
+pub use Rattle.mr_node.specs.Inside.{AreChildrenBeside, ArePairChildren, IsLooseAt, IsPairAt, IsPairWithRoom, IsRoomAt, IsSplicedAt, IsSplitAt, IsWholeAgain}
 pub use Rattle.mr_node.specs.Levels.{IsChild, IsChildOf, IsChildPlace, IsInner, IsInnerOf, IsLeaf, IsNode, IsWell, NodeBody, NodeChild, NodeInner, NodePart, children_of, pairs_of, rows_of, seen, seen_inner, seen_leaf, widths_of}
 pub use Rattle.mr_node.specs.Pages.{IsPage}
 pub use Rattle.mr_node.specs.Pairs.{AreEvenWidths, AreEvened, IsChildNode, IsHalved, IsJoined, IsShare}

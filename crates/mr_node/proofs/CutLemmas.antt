@@ -1,5 +1,5 @@
 -- A full child that is split: halved, or with its neighbour, to which it gave.
-use Rattle.mr_node.proofs.Common.{◌≡◌, ℕ, ◌+◌, ◌-◌, ◌<◌, ◌≤◌, List, [], ◌∷◌, ◌++◌, length, get_or, set, take, drop, Option, Some, None, IsSome, IfSome, min, refl, sym, ap, subst, ◌∙◌, arith, take_at, AllByRecursion, append_assoc, drop_at, length-take-le, length-append, get_or_at, take-append-drop, take-take, IsOrderedBy, row_at, with_row, each-append, each-left, each-right, ordered-right, below-weaker, from-weaker, below_start, from_start, starts_left, Seen, key_of_pair, key_limit, KeysBelow, KeysFrom, StartsWith, AreEntries, NodePart, NodeChild, NodeInner, children_of, rows_of, IsChild, IsInner, seen_inner, IsGrown, IsChildPlace, IsHalved, IsWholeAgain, IsRoomAt, IsSplitAt}
+use Rattle.mr_node.proofs.Common.{◌≡◌, ℕ, ◌+◌, ◌-◌, ◌<◌, ◌≤◌, List, [], ◌∷◌, ◌++◌, length, get_or, set, take, drop, Option, Some, None, IsSome, IfSome, min, refl, sym, ap, subst, ◌∙◌, arith, take_at, AllByRecursion, append_assoc, drop-drop, drop_at, length-take-le, length-append, get_or_at, take-append-drop, take-take, IsOrderedBy, row_at, with_row, each-append, each-left, each-right, ordered-right, below-weaker, from-weaker, below_start, from_start, starts_left, Seen, key_of_pair, key_limit, KeysBelow, KeysFrom, StartsWith, AreEntries, NodePart, NodeChild, NodeInner, children_of, rows_of, IsChild, IsInner, seen_inner, IsGrown, IsChildPlace, IsHalved, IsWholeAgain, IsRoomAt, IsSplitAt}
 use Rattle.mr_node.proofs.PlaceLemmas.{packed_some}
 use Rattle.mr_node.proofs.EntryListLemmas.{entries_length, entries_read, entries_split, entries_written}
 use Rattle.mr_node.proofs.ChildLemmas.{IsCutAt, rows_of-append, child_at, cut_child}
@@ -126,38 +126,45 @@ module _ {V : Type 0} where
       let cut = ap rows_of (sym (take-append-drop from (take i children))) ∙ rows_of-append (take from (take i children)) (drop from (take i children)) ∙ ap (λ l. rows_of l ++ rest) (take-take from i children le) in
       each-left (λ p. p.0 < key) (rows_of (take from children)) rest (subst (KeysBelow key) cut below)
 
+  -- the rows from a place on are from a key on where those from an earlier one on are
+  above_back : (key i to : ℕ) (children : List (NodeChild V)) → i ≤ to → KeysFrom key (rows_of (drop i children)) → KeysFrom key (rows_of (drop to children))
+  above_back key i to children le above =
+      let front = rows_of (take (to - i) (drop i children)) in
+      let cut = ap rows_of (sym (take-append-drop (to - i) (drop i children))) ∙ rows_of-append (take (to - i) (drop i children)) (drop (to - i) (drop i children)) ∙ ap (λ l. front ++ rows_of l) (drop-drop (to - i) i children ∙ ap (λ j. drop j children) (omega (arith, le))) in
+      each-right (λ p. key ≤ p.0) front (rows_of (drop to children)) (subst (KeysFrom key) cut above)
+
   -- where the second of the two stands
-  split_front : (from i : ℕ) (b new : NodeInner V) → from ≤ i → i < b.len → IsInner b → (sp : IsSplitAt from (i + 1) b new) → (children_of new ≡ (take from (children_of b) ++ (sp.low ∷ [])) ++ (sp.high ∷ drop (i + 1) (children_of b))) × (length (take from (children_of b)) ≡ from) × (length (take from (children_of b) ++ (sp.low ∷ [])) ≡ from + 1)
-  split_front from i b new le lt inner sp =
+  split_front : (from to i : ℕ) (b new : NodeInner V) → from ≤ i → i < b.len → IsInner b → (sp : IsSplitAt from to b new) → (children_of new ≡ (take from (children_of b) ++ (sp.low ∷ [])) ++ (sp.high ∷ drop to (children_of b))) × (length (take from (children_of b)) ≡ from) × (length (take from (children_of b) ++ (sp.low ∷ [])) ≡ from + 1)
+  split_front from to i b new le lt inner sp =
       let a = take from (children_of b) in
       let long : length a ≡ from = length-take-le from (children_of b) (omega (arith, entries_length b.len b.leasts b.children inner.entries, le, lt)) in
-      (sp.list ∙ sym (append_assoc a (sp.low ∷ []) (sp.high ∷ drop (i + 1) (children_of b))), long, omega (arith, length-append a (sp.low ∷ []), long))
+      (sp.list ∙ sym (append_assoc a (sp.low ∷ []) (sp.high ∷ drop to (children_of b))), long, omega (arith, length-append a (sp.low ∷ []), long))
 
-  pub split_next : (from i : ℕ) (b new : NodeInner V) → from ≤ i → i < b.len → IsInner b → (sp : IsSplitAt from (i + 1) b new) → IsReadAs (from + 1) new sp.high
-  split_next from i b new le lt inner sp =
-      let front = split_front from i b new le lt inner sp in
-      read_part (from + 1) new (take from (children_of b) ++ (sp.low ∷ [])) (drop (i + 1) (children_of b)) sp.high sp.entries front.0 front.2
+  pub split_next : (from to i : ℕ) (b new : NodeInner V) → from ≤ i → i < b.len → IsInner b → (sp : IsSplitAt from to b new) → IsReadAs (from + 1) new sp.high
+  split_next from to i b new le lt inner sp =
+      let front = split_front from to i b new le lt inner sp in
+      read_part (from + 1) new (take from (children_of b) ++ (sp.low ∷ [])) (drop to (children_of b)) sp.high sp.entries front.0 front.2
 
-  pub split_low : (from i : ℕ) (b new : NodeInner V) (key : ℕ) (k : NodeChild V) → from ≤ i → i < b.len → IsInner b → IsCutAt key (b.height - 1) i (children_of b) k → (sp : IsSplitAt from (i + 1) b new) → key < sp.high.0 → IsRoomAt key from new
-  split_low from i b new key k le lt inner cut sp less =
-      let d = drop (i + 1) (children_of b) in
+  pub split_low : (from to i : ℕ) (b new : NodeInner V) (key : ℕ) (k : NodeChild V) → from ≤ i → i < b.len → IsInner b → IsCutAt key (b.height - 1) i (children_of b) k → (sp : IsSplitAt from to b new) → key < sp.high.0 → IsRoomAt key from new
+  split_low from to i b new key k le lt inner cut sp less =
+      let d = drop to (children_of b) in
       let low = sp.low.1.node.value.rows in
       let high = sp.high.1.node.value.rows in
-      let o = ordered-right key_of_pair low (high ++ rows_of d) (ordered_tail from (i + 1) b new inner sp) in
-      room_at_of key from new (take from (children_of b)) (sp.high ∷ d) sp.low sp.entries sp.list (split_front from i b new le lt inner sp).1 (below_front key from i (children_of b) le cut.below)
+      let o = ordered-right key_of_pair low (high ++ rows_of d) (ordered_tail from to b new inner sp) in
+      room_at_of key from new (take from (children_of b)) (sp.high ∷ d) sp.low sp.entries sp.list (split_front from to i b new le lt inner sp).1 (below_front key from i (children_of b) le cut.below)
       (from-weaker key_of_pair (key + 1) sp.high.0 (high ++ rows_of d) (omega (arith, less)) (from_start key_of_pair sp.high.0 (high ++ rows_of d) (starts_left key_of_pair sp.high.0 high (rows_of d) sp.upper.first) o))
       sp.low_room
 
-  pub split_high : (from i : ℕ) (b new : NodeInner V) (key : ℕ) (k : NodeChild V) → from ≤ i → i < b.len → IsInner b → IsCutAt key (b.height - 1) i (children_of b) k → (sp : IsSplitAt from (i + 1) b new) → sp.high.0 ≤ key → IsRoomAt key (from + 1) new
-  split_high from i b new key k le lt inner cut sp more =
+  pub split_high : (from to i : ℕ) (b new : NodeInner V) (key : ℕ) (k : NodeChild V) → from ≤ i → i < to → i < b.len → IsInner b → IsCutAt key (b.height - 1) i (children_of b) k → (sp : IsSplitAt from to b new) → sp.high.0 ≤ key → IsRoomAt key (from + 1) new
+  split_high from to i b new key k le behind lt inner cut sp more =
       let a = take from (children_of b) in
-      let d = drop (i + 1) (children_of b) in
+      let d = drop to (children_of b) in
       let low = sp.low.1.node.value.rows in
       let high = sp.high.1.node.value.rows in
-      let lows = below-weaker key_of_pair sp.high.0 key low more (below_start key_of_pair sp.high.0 low high (rows_of d) sp.upper.first (ordered_tail from (i + 1) b new inner sp)) in
+      let lows = below-weaker key_of_pair sp.high.0 key low more (below_start key_of_pair sp.high.0 low high (rows_of d) sp.upper.first (ordered_tail from to b new inner sp)) in
       let below = subst (KeysBelow key) (sym (rows_of-append a (sp.low ∷ []))) (each-append (λ p. p.0 < key) (rows_of a) (low ++ []) (below_front key from i (children_of b) le cut.below) (each-append (λ p. p.0 < key) low [] lows tt)) in
-      let front = split_front from i b new le lt inner sp in
-      room_at_of key (from + 1) new (a ++ (sp.low ∷ [])) d sp.high sp.entries front.0 front.2 below cut.above sp.high_room
+      let front = split_front from to i b new le lt inner sp in
+      room_at_of key (from + 1) new (a ++ (sp.low ∷ [])) d sp.high sp.entries front.0 front.2 below (above_back (key + 1) (i + 1) to (children_of b) (omega (arith, behind)) cut.above) sp.high_room
 
   -- the place with room as a cut
   pub cut_of_room : (key i : ℕ) (b : NodeInner V) (k : NodePart V) → IsInner b → IsRoomAt key i b → get_or b.children i None ≡ Some k → (IsCutAt key (b.height - 1) i (children_of b) (child_at b i k)) × (k.node.value.width < 32)

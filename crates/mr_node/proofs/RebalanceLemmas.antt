@@ -1,5 +1,5 @@
 -- Inner nodes two of whose children share their entries anew.
-use Rattle.mr_node.proofs.Common.{◌≡◌, ℕ, ◌+◌, ◌-◌, ◌*◌, ◌^◌, ◌<◌, ◌≤◌, List, [], ◌∷◌, ◌++◌, length, get_or, set, take, drop, Option, Some, None, IfSome, Bool, true, false, refl, sym, ap, subst, ◌∙◌, arith, lit<, append-nil, take_at, inl, inr, AllByRecursion, sum_by-cons, cases_lt, mul-le-mul_right, pow-le-pow_right, append_assoc, drop-drop, drop_at, length-append, length-take-le, set-set, set_comm, take-append-drop, take-take, IsOrderedBy, each-weaker, each-append, each-left, each-right, ordered-left, ordered-right, starts_left, Seen, key_of_pair, key_limit, KeysBelow, StartsWith, entries, AreEntries, NodePart, NodeChild, NodeInner, children_of, rows_of, widths_of, IsWell, IsChild, IsChildOf, IsInner, IsInnerOf, IsChildNode, IsJoined, IsShare, AreEvened, AreChildrenBeside, IsLooseAt, ArePairChildren, IsPairAt, IsSplicedAt, IsWholeAgain, IsSplitAt}
+use Rattle.mr_node.proofs.Common.{◌≡◌, ℕ, ◌+◌, ◌-◌, ◌*◌, ◌^◌, ◌<◌, ◌≤◌, List, [], ◌∷◌, ◌++◌, length, get_or, set, take, drop, Option, Some, None, IfSome, Bool, true, false, refl, sym, ap, subst, ◌∙◌, arith, lit<, append-nil, take_at, inl, inr, AllByRecursion, sum_by-cons, cases_lt, mul-le-mul_right, pow-le-pow_right, append_assoc, drop-drop, drop_at, length-append, length-take-le, set-set, set_comm, take-append-drop, take-take, IsOrderedBy, each-weaker, each-append, each-left, each-right, ordered-left, ordered-right, starts_left, Seen, key_of_pair, key_limit, KeysBelow, StartsWith, entries, AreEntries, NodePart, NodeChild, NodeInner, children_of, rows_of, widths_of, IsWell, IsChild, IsChildOf, IsInner, IsInnerOf, IsChildNode, IsJoined, IsShare, AreEvened, AreChildrenBeside, IsLooseAt, ArePairChildren, IsPairAt, IsSplicedAt, IsWholeAgain, IsSplitAt, IsPairWithRoom}
 use Rattle.mr_node.proofs.PlaceLemmas.{packed_some}
 use Rattle.mr_node.proofs.EntryListLemmas.{entries_length, entries_split, entries_rest, entries_written, entries_both}
 use Rattle.mr_node.proofs.ChildLemmas.{rows_of-append, child_at}
@@ -71,6 +71,7 @@ module _ {V : Type 0} where
   pub record AreWidths (least v w : ℕ) (children : List (NodeChild V)) : Type 0 where
     pub both : v + w ≡ widths_of children
     pub enough : least ≤ v
+    pub also : least ≤ w
     pub first : v ≤ 32
     pub second : w ≤ 32
 
@@ -84,6 +85,7 @@ module _ {V : Type 0} where
       record {
         both = omega (arith, first, second, pair_widths least p b low.0 high.0 pair);
         enough = omega (arith, first, pair.first.enough);
+        also = omega (arith, second, pair.second.enough);
         first = omega (arith, first, pair.first.well.fits);
         second = omega (arith, second, pair.second.well.fits);
       }
@@ -198,6 +200,10 @@ module _ {V : Type 0} where
     pub less : many < widths_of (take 2 (drop m (children_of b)))
     pub much : widths_of (take 2 (drop m (children_of b))) < many + 32
 
+  full_at : (o : Option (NodePart V)) → IfSome o (λ k. k.node.value.width ≡ 32) → IfSome o (λ k. 32 ≡ k.node.value.width)
+  full_at None h = tt
+  full_at (Some k) h = sym h
+
   pub giving_at : (i m w many : ℕ) (b : NodeInner V) → IsInner b → i ≡ m + 1 → i < b.len → IfSome (get_or b.children m None) (λ k. w ≡ k.node.value.width) → IfSome (get_or b.children i None) (λ k. k.node.value.width ≡ 32) → w < many → many < 32 → IsGiving m i many b
   giving_at i m w many b inner e lt width full few fits =
       let next : IfSome (get_or b.children (m + 1) None) (λ k. 32 ≡ k.node.value.width) = full_at (get_or b.children (m + 1) None) (subst (λ j. IfSome (get_or b.children j None) (λ k. k.node.value.width ≡ 32)) e full) in
@@ -213,18 +219,39 @@ module _ {V : Type 0} where
         less = omega (arith, wide.both, fits);
         much = omega (arith, wide.both, few);
       }
-    where
-      full_at : (o : Option (NodePart V)) → IfSome o (λ k. k.node.value.width ≡ 32) → IfSome o (λ k. 32 ≡ k.node.value.width)
-      full_at None h = tt
-      full_at (Some k) h = sym h
 
-  -- a full child gave to the one before it, and both have room
-  pub split_given : (i m many : ℕ) (joined : Bool) (b new : NodeInner V) → i ≡ m + 1 → many < 32 → IsInner b → IsGiving m i many b → IsPairAt m many joined b new → IsSplitAt m (i + 1) b new
-  split_given i m many true b new e few inner giving at = absurd (omega (arith, giving.less, at.width, at.children.2))
-  split_given i m many false b new e few inner giving at = record {
+  -- a full child has a neighbour with room, behind it or in front of it
+  pub room_behind : (i w : ℕ) (b : NodeInner V) → IsInner b → i + 1 < b.len → IfSome (get_or b.children (i + 1) None) (λ k. w ≡ k.node.value.width) → IfSome (get_or b.children i None) (λ k. k.node.value.width ≡ 32) → w ≤ 28 → IsPairWithRoom i i b
+  room_behind i w b inner lt width full few =
+      let wide = widths_at 16 i 32 w b inner lt (full_at (get_or b.children i None) full) width in
+      record { within = lt; begins = omega arith; near = omega arith; many = omega (arith, wide.both, wide.also); few = omega (arith, wide.both, few) }
+
+  pub room_before : (i m w : ℕ) (b : NodeInner V) → IsInner b → i ≡ m + 1 → i < b.len → IfSome (get_or b.children m None) (λ k. w ≡ k.node.value.width) → IfSome (get_or b.children i None) (λ k. k.node.value.width ≡ 32) → w ≤ 28 → IsPairWithRoom m i b
+  room_before i m w b inner e lt width full few =
+      let next = full_at (get_or b.children (m + 1) None) (subst (λ j. IfSome (get_or b.children j None) (λ k. k.node.value.width ≡ 32)) e full) in
+      let wide = widths_at 16 m w 32 b inner (omega (arith, e, lt)) width next in
+      record { within = omega (arith, e, lt); begins = omega (arith, e); near = omega (arith, e); many = omega (arith, wide.both, wide.enough); few = omega (arith, wide.both, few) }
+
+  -- the two share their entries evenly
+  pub sharing_at : (m i both low : ℕ) (b : NodeInner V) → IsPairWithRoom m i b → both ≡ widths_of (take 2 (drop m (children_of b))) → IsShare both low → (32 < both → (2 * low ≤ both) × (both ≤ 2 * low + 1)) → (IsGiving m i low b) × (low < 32)
+  sharing_at m i both low b pair same share half =
+      let even = half (omega (arith, same, pair.many)) in (
+        record {
+          within = pair.within;
+          share = subst (λ w. IsShare w low) same share;
+          less = omega (arith, same, pair.many, even.0);
+          much = omega (arith, same, pair.few, even.1);
+        },
+        omega (arith, same, pair.few, even.0),
+      )
+
+  -- a full child and its neighbour shared their entries, and both have room
+  pub split_given : (i m many : ℕ) (joined : Bool) (b new : NodeInner V) → many < 32 → IsInner b → IsGiving m i many b → IsPairAt m many joined b new → IsSplitAt m (m + 2) b new
+  split_given i m many true b new few inner giving at = absurd (omega (arith, giving.less, at.width, at.children.2))
+  split_given i m many false b new few inner giving at = record {
     low = at.low;
     high = at.high;
-    list = at.list ∙ ap (λ j. take m (children_of b) ++ (at.low ∷ (at.high ∷ drop j (children_of b)))) (omega (arith, e));
+    list = at.list;
     height = at.height;
     len = omega (arith, at.len);
     entries = at.entries;

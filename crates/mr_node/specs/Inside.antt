@@ -62,6 +62,14 @@ pub record IsSplitAt {V : Type 0} (from to : ℕ) (old new : NodeInner V) : Type
   pub low_room : low.1.node.value.width < 32
   pub high_room : high.1.node.value.width < 32
 
+-- the child at a place and a neighbour of it, which has room for four entries and more, if that child is full
+pub record IsPairWithRoom {V : Type 0} (first place : ℕ) (b : NodeInner V) : Type 0 where
+  pub within : first + 1 < b.len
+  pub begins : first ≤ place
+  pub near : place ≤ first + 1
+  pub many : 32 < widths_of (take 2 (drop first (children_of b)))
+  pub few : widths_of (take 2 (drop first (children_of b))) ≤ 60
+
 -- the key belongs to the child at this place, which has room
 pub record IsRoomAt {V : Type 0} (key place : ℕ) (b : NodeInner V) : Type 0 where
   pub within : place < b.len

@@ -2,7 +2,7 @@
 ghost use Rattle.std.specs.Prelude.{◌≡◌, ◌+◌, ◌-◌, ◌*◌, ◌<◌, ◌≤◌, ℕ, None, IfSome, length, take, drop, slice_index_or};
 ghost use Rattle.mr_node.specs.Levels.{children_of, widths_of, IsInner, IsInnerOf};
 ghost use Rattle.mr_node.specs.Pairs.{IsShare};
-ghost use Rattle.mr_node.specs.Inside.{IsLooseAt, IsPairAt, IsSplicedAt, IsWholeAgain, IsSplitAt, IsRoomAt};
+ghost use Rattle.mr_node.specs.Inside.{IsLooseAt, IsPairAt, IsSplicedAt, IsWholeAgain, IsSplitAt, IsRoomAt, IsPairWithRoom};
 ghost use Rattle.mr_node.specs.Steps.{after_steps, IsRoomMade};
 
 use crate::children::{child_place, put_child, take_child};
@@ -14,6 +14,10 @@ const GIVEN_FROM: usize = 24;
 /// until that one has this many. So both have room left, and rows that come in rising order leave nearly full nodes
 /// behind.
 pub(crate) const GIVEN_TO: usize = 29;
+
+/// Otherwise a full child and a neighbour that has at most this many get half of their entries each. So a node is split
+/// only between full neighbours, and nodes stay fuller where rows come in no order.
+const SHARED_FROM: usize = 28;
 
 /// Returns the width of the child at a place.
 fn child_width<V>(children: &[Option<Child<Box<Node<V>>>>; 32], place: usize) -> usize
@@ -171,9 +175,27 @@ fn split_child<V: Drop + Default>(
     put_child(inner, place + 1, least, Child { count, node: blank });
 }
 
-/// Shares or halves the full child at a place. The child gives entries to the one before it, if that has much room, in
-/// four steps, and is otherwise halved, in three steps and with one blank node. It returns the place of the first of
-/// the two children that have its entries.
+/// Returns the first of the two neighbours that share their entries evenly when the child at a place is full: that
+/// child and the next one, or the one before it and that child. It returns `None` if neither neighbour has room for four
+/// entries.
+fn pair_with_room<V>(inner: &Inner<Box<Node<V>>>, place: usize) -> Option<usize>
+    requires inner { IsInner inner.now }
+    requires within { place < inner.now.len }
+    requires full { IfSome (slice_index_or inner.now.children place None) (λ k. k.node.value.width ≡ 32) }
+    ensures { IfSome result (λ first. IsPairWithRoom first place inner.now) }
+{
+    if place + 1 < inner.len && child_width(&inner.children, place + 1) <= SHARED_FROM {
+        return Some(place);
+    }
+    if place > 0 && child_width(&inner.children, place - 1) <= SHARED_FROM {
+        return Some(place - 1);
+    }
+    None
+}
+
+/// Shares or halves the full child at a place. The child gives entries to the one before it, if that has much room, or
+/// shares them evenly with a neighbour that has some, in four steps. It is otherwise halved, in three steps and with one
+/// blank node. It returns the place of the first of the two children that have its entries.
 fn share_or_split<V: Drop + Default>(
     inner: &mut Inner<Box<Node<V>>>,
     place: usize,
@@ -185,7 +207,7 @@ fn share_or_split<V: Drop + Default>(
     requires within { place < inner.old.len }
     requires full { IfSome (slice_index_or inner.old.children place None) (λ k. k.node.value.width ≡ 32) }
     requires stock { 0 < stock.old }
-    ensures split { IsSplitAt result (place + 1) inner.old inner.new }
+    ensures split { (to : ℕ) × (place < to) × IsSplitAt result to inner.old inner.new }
     ensures place { result ≤ place }
     ensures stock { stock.new ≤ stock.old }
     ensures made { IsRoomMade 1 (stock.old - stock.new) meter.old meter.new }
@@ -193,6 +215,11 @@ fn share_or_split<V: Drop + Default>(
     if place > 0 && child_width(&inner.children, place - 1) <= GIVEN_FROM {
         share_pair(inner, place - 1, GIVEN_TO, meter);
         return place - 1;
+    }
+    if let Some(first) = pair_with_room(inner, place) {
+        let low = low_of(pair_width(inner, first));
+        share_pair(inner, first, low, meter);
+        return first;
     }
     meter.tick(3);
     split_child(inner, place, stock.give());

@@ -255,9 +255,9 @@ fn cuts_each_refused(rt: HostRuntime) {
     drop(part);
 }
 
-/// Adds 600 subscribers, the last one first, so that the leaves of their tree are half full.
+/// Adds 1,200 subscribers, the last one first.
 fn add_falling(rt: &impl Abort, part: &mut Part) {
-    for s_id in (1..601u32).rev() {
+    for s_id in (1..1201u32).rev() {
         let row = subscriber(rt, u64::from(s_id), 1);
         let (reply, _change, _asked) = act(rt, part, &Action::AddSubscriber(row));
         assert!(rt; reply == RowReply::Done);
@@ -277,20 +277,20 @@ fn large_cut(rt: &impl Abort, part: &mut Part, at: u32, side: Side) -> [u64; 4] 
     [heights[0], heights[1], cut, part.last_steps()]
 }
 
-/// Cuts a part of 600 subscribers, whose tree has the height 2, in the middle and near both ends, and joins it again.
+/// Cuts a part of 1,200 subscribers, whose tree has the height 2, in the middle and near both ends, and joins it again.
 /// Of the steps each of the three empty trees takes three to be cut and four to be joined.
 fn expect_large_cuts(rt: &impl Abort, part: &mut Part) {
     add_falling(rt, part);
     let whole = (heights(part), part.recount());
     let cuts = [
-        large_cut(rt, part, 301, Side::High),
+        large_cut(rt, part, 601, Side::High),
         large_cut(rt, part, 20, Side::Low),
-        large_cut(rt, part, 590, Side::High),
+        large_cut(rt, part, 1190, Side::High),
     ];
     assert_eq!(rt;
         (cuts, whole.0, part.recount() == whole.1),
         (
-            [[1, 1, 39, 17], [2, 0, 36, 25], [2, 0, 36, 20]],
+            [[1, 1, 44, 17], [2, 0, 41, 25], [2, 0, 41, 25]],
             [2, 0, 0, 0],
             true
         )
@@ -299,7 +299,7 @@ fn expect_large_cuts(rt: &impl Abort, part: &mut Part) {
 
 #[test]
 fn large_cuts(rt: HostRuntime) {
-    let mut part = Part::new(rt.alloc(), 1, 601, 20).expect(&rt, "a part");
+    let mut part = Part::new(rt.alloc(), 1, 1201, 40).expect(&rt, "a part");
     expect_large_cuts(&rt, &mut part);
     drop(part);
 }

@@ -34,23 +34,23 @@ cut g c =
     let some = packed_some b.len i b.children c.requires.inner.entries.packed c.child_place-place.ensures.within in
     (child_at b i some.0, cut_child c.args.key i b some.0 c.requires.inner c.child_place-place.ensures some.1)
 
-next : (g : _) (c : After-share_or_split-low g) → IsReadAs (c.share_or_split-low.result + 1) c.share_or_split-low.new.inner c.share_or_split-low.ensures.split.high
-next g c = split_next c.share_or_split-low.result c.child_place-place.result c.args.inner.now c.share_or_split-low.new.inner c.share_or_split-low.ensures.place c.child_place-place.ensures.within c.requires.inner c.share_or_split-low.ensures.split
+next : (g : _) (c : After-share_or_split-low g) → IsReadAs (c.share_or_split-low.result + 1) c.share_or_split-low.new.inner c.share_or_split-low.ensures.split.2.high
+next g c = split_next c.share_or_split-low.result c.share_or_split-low.ensures.split.0 c.child_place-place.result c.args.inner.now c.share_or_split-low.new.inner c.share_or_split-low.ensures.place c.child_place-place.ensures.within c.requires.inner c.share_or_split-low.ensures.split.2
 
 pub returns-then-inner-low-clause-same : goal.returns-then-inner-low-clause-same
-returns-then-inner-low-clause-same g c = split_same c.share_or_split-low.result (c.child_place-place.result + 1) c.args.inner.now c.share_or_split-low.new.inner c.requires.inner c.share_or_split-low.ensures.split
+returns-then-inner-low-clause-same g c = split_same c.share_or_split-low.result c.share_or_split-low.ensures.split.0 c.args.inner.now c.share_or_split-low.new.inner c.requires.inner c.share_or_split-low.ensures.split.2
 
 pub returns-then-inner-low-clause-place : goal.returns-then-inner-low-clause-place
 returns-then-inner-low-clause-place g c =
     let at = (goal.at.returns-then-inner-low-clause-place g c).After-share_or_split-low in
     let child = cut g at in
-    split_high c.share_or_split-low.result c.child_place-place.result c.args.inner.now c.share_or_split-low.new.inner c.args.key child.0 c.share_or_split-low.ensures.place c.child_place-place.ensures.within c.requires.inner child.1 c.share_or_split-low.ensures.split (omega (arith, (next g at).least, c.if-inner-low.true))
+    split_high c.share_or_split-low.result c.share_or_split-low.ensures.split.0 c.child_place-place.result c.args.inner.now c.share_or_split-low.new.inner c.args.key child.0 c.share_or_split-low.ensures.place c.share_or_split-low.ensures.split.1 c.child_place-place.ensures.within c.requires.inner child.1 c.share_or_split-low.ensures.split.2 (omega (arith, (next g at).least, c.if-inner-low.true))
 
 pub returns-clause-same : goal.returns-clause-same
-returns-clause-same g c = split_same c.share_or_split-low.result (c.child_place-place.result + 1) c.args.inner.now c.share_or_split-low.new.inner c.requires.inner c.share_or_split-low.ensures.split
+returns-clause-same g c = split_same c.share_or_split-low.result c.share_or_split-low.ensures.split.0 c.args.inner.now c.share_or_split-low.new.inner c.requires.inner c.share_or_split-low.ensures.split.2
 
 pub returns-clause-place : goal.returns-clause-place
 returns-clause-place g c =
     let at = (goal.at.returns-clause-place g c).After-share_or_split-low in
     let child = cut g at in
-    split_low c.share_or_split-low.result c.child_place-place.result c.args.inner.now c.share_or_split-low.new.inner c.args.key child.0 c.share_or_split-low.ensures.place c.child_place-place.ensures.within c.requires.inner child.1 c.share_or_split-low.ensures.split (omega (arith, (next g at).least, c.if-inner-low.false))
+    split_low c.share_or_split-low.result c.share_or_split-low.ensures.split.0 c.child_place-place.result c.args.inner.now c.share_or_split-low.new.inner c.args.key child.0 c.share_or_split-low.ensures.place c.child_place-place.ensures.within c.requires.inner child.1 c.share_or_split-low.ensures.split.2 (omega (arith, (next g at).least, c.if-inner-low.false))
