@@ -1,15 +1,15 @@
 -- Orders under way in a register with its journal.
-use Rattle.std.proofs.Common.{◌≡◌, ◌∙◌, refl, sym, ap, subst, ℕ, ◌≤◌, true, List, [], ◌∷◌, ◌++◌, Option, Some, None, arith}
+use Rattle.std.proofs.Common.{◌≡◌, ◌∙◌, refl, sym, ap, subst, ℕ, ◌≤◌, true, List, [], ◌∷◌, ◌++◌, length, take, Option, Some, None, arith}
 use Rattle.std.proofs.lemmas.List.{append-nil}
 use Rattle.journal_file.specs.Device.{LeavesOnly}
 use Rattle.journal_file.specs.declared.fault.JournalFault.{JournalFault}
 use Rattle.journal.specs.Lines.{HasFence, lines}
 use Rattle.journal.specs.declared.tape.Tape.{Tape}
-use Rattle.journal.proofs.MomentLemmas.{started}
+use Rattle.journal.proofs.MomentLemmas.{joined, started, weaker}
 use Rattle.journal.proofs.OpenLemmas.{all_only, open_fence}
-use Rattle.hlr_owners.specs.Owners.{AllHome, OwnersState, store_in}
+use Rattle.hlr_owners.specs.Owners.{AllHome, OwnersState, book_in, store_in}
 use Rattle.hlr_owners.specs.Store.{Store}
-use Rattle.hlr_core.specs.Run.{IsOrderStep}
+use Rattle.hlr_core.specs.Run.{IsOrderStep, IsRun}
 use Rattle.hlr_core.specs.declared.order.Answer.{Answer}
 use Rattle.hlr_core.specs.declared.order.Order.{Order}
 use Rattle.hlr_kept.specs.Rows.{book_after_lines, book_of}
@@ -106,3 +106,32 @@ module _ {D : Type 0} (seen : D → List ℕ) (may_leave : D → List ℕ → Ty
   stands_still moment left_since only_now stored orders answers before after same disk =
       subst (λ (t : Tape D). LeavesOnly moment left_since before.device t.device (λ c. HasFence c × StandsAfterSome orders answers stored c)) (sym same)
       (stands_now moment left_since only_now stored orders answers before disk)
+
+-- all orders of a run, as the first so many of them
+whole_run : (orders : List Order) (answers : List Answer) (a b : Store) → IsRun orders a answers b → IsRun (take (length orders) orders) a (take (length orders) answers) b
+whole_run [] [] a b run = run
+whole_run [] (told ∷ answers) a b run = absurd run
+whole_run (one ∷ orders) [] a b run = absurd run
+whole_run (one ∷ orders) (told ∷ answers) a b run = (run.0, run.1, whole_run orders answers run.0 b run.2)
+
+-- a file that stands for the rows of the register has all orders under way
+pub stands_after_all : (stored : Store) (orders : List Order) (answers : List Answer) (register : OwnersState) (group c : List ℕ) → IsAhead stored orders register answers group
+    → book_of c ≡ Some (book_in register.owners) → StandsAfterSome orders answers stored c
+stands_after_all stored orders answers register group c ahead rows = record {
+  count = length orders;
+  within = omega arith;
+  after = store_in register;
+  run = whole_run orders answers stored (store_in register) ahead.run;
+  rows = rows;
+}
+
+-- a snapshot takes the place of a journal behind a sync
+pub compacted : {D : Type 0} (moment : D → ℕ) (left_since : D → ℕ → List ℕ → Type 0) (stored : Store) (orders : List Order) (answers : List Answer) (register after : OwnersState) (group : List ℕ)
+    (old mid new : D) → IsAhead stored orders register answers group → after ≡ register
+    → LeavesOnly moment left_since old mid (λ c. HasFence c × StandsAfterSome orders answers stored c)
+    → LeavesOnly moment left_since mid new (λ c. HasFence c × (book_of c ≡ Some (book_in after.owners)))
+    → LeavesOnly moment left_since old new (λ c. HasFence c × StandsAfterSome orders answers stored c)
+compacted moment left_since stored orders answers register after group old mid new ahead same first second =
+    joined moment left_since old mid new (λ c. HasFence c × StandsAfterSome orders answers stored c) first
+    (weaker moment left_since mid new (λ c. HasFence c × (book_of c ≡ Some (book_in after.owners))) (λ c. HasFence c × StandsAfterSome orders answers stored c) second
+    (λ c left. (left.0, stands_after_all stored orders answers register group c ahead (left.1 ∙ ap (λ (r : OwnersState). Some (book_in r.owners)) same))))

@@ -3,8 +3,37 @@ ghost use Rattle.std.specs.Prelude.{◌≡◌, [], ⊤, IfOk};
 ghost use Rattle.journal.specs.Lines.{IsWhole, recovered, text};
 ghost use Rattle.journal.specs.Tape.{IsOpen};
 
-use journal::{JournalFault, Machine, Tape, Unread, replay};
+use journal::{
+    Disk, JournalFault, Machine, Memory, Replace, Tape, Unread, UnreadMemory, open_next, replay,
+};
 use std::alloc::Global;
+
+/// How many zeros the file has that a file in memory makes for a snapshot.
+const BLANK: usize = 64;
+
+/// A file whose place another one can take, which it makes by itself.
+pub trait NextTape: Replace + Drop {
+    /// Makes a file that has no line, and returns its tape, on which a snapshot can be written. Gives up with
+    /// `Memory`, and with `Failed` if the disk does.
+    fn next_tape(&self, alloc: Global) -> Result<Tape<Self>, JournalFault>
+        ensures open_tape { IfOk result (λ tape. IsOpen Self.Device.seen Self.Device.may_leave tape) }
+        ensures whole { IfOk result (λ tape. IsWhole (text (Self.Device.seen tape.device))) }
+        ensures blank { IfOk result (λ tape. recovered (Self.Device.seen tape.device) ≡ []) };
+}
+
+impl NextTape for Disk {
+    fn next_tape(&self, alloc: Global) -> Result<Tape<Disk>, JournalFault> {
+        blank(alloc, open_next(self)?)
+    }
+}
+
+impl NextTape for Memory {
+    fn next_tape(&self, alloc: Global) -> Result<Tape<Memory>, JournalFault> {
+        let mut zeros = Vec::new(alloc);
+        zeros.resize(BLANK, 0)?;
+        blank(alloc, UnreadMemory::new(Memory::new(alloc, zeros)))
+    }
+}
 
 /// Refuses each line, so that only a file without a line is read to its end.
 #[derive(Drop)]

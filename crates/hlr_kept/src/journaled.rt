@@ -3,7 +3,7 @@ ghost use Rattle.std.specs.Prelude.{◌≡◌, ◌⊎◌, ◌≤◌, ◌+◌, �
 ghost use Rattle.journal_file.specs.Device.{LeavesOnly};
 ghost use Rattle.journal.specs.Lines.{HasFence};
 ghost use Rattle.edit_lines.specs.Lines.{has_line, is_change};
-ghost use Rattle.hlr_owners.specs.Owners.{store_in};
+ghost use Rattle.hlr_owners.specs.Owners.{AllHome, book_in, store_in};
 ghost use Rattle.hlr_owners.specs.Recut.{IsRecut};
 ghost use Rattle.hlr_owners.specs.Store.{Store};
 ghost use Rattle.hlr_core.specs.Run.{IsOrderStep};
@@ -12,26 +12,58 @@ ghost use Rattle.hlr_core.specs.declared.order.Answer.{Answer};
 ghost use Rattle.hlr_core.specs.declared.order.Answer.TheVariants as answer;
 ghost use Rattle.hlr_core.specs.declared.order.Order.{Order};
 ghost use Rattle.hlr_core.specs.declared.order.Order.TheVariants as order;
-ghost use Rattle.hlr_kept.specs.Runs.{StandsAfterSome, line_bytes, tells_done};
+ghost use Rattle.hlr_kept.specs.Rows.{book_of};
+ghost use Rattle.hlr_kept.specs.Runs.{IsOnDisk, StandsAfterSome, line_bytes, tells_done};
 ghost use Rattle.hlr_kept.specs.UnderWay.{IsReady, IsUnchanged, IsUnderWay};
 
+use crate::blank_tape::NextTape;
 use crate::restoring::tells_done;
+use crate::snapshots::snapshot;
 use crate::writing::write;
 use edit_lines::{LONGEST, push_line};
 use hlr_core::{Answer, Event, Order, Refusal, Register, Reply};
 use journal::{Device, JournalFault, Tape};
+use std::alloc::Global;
 
 /// Keeps a register in a journal. An answer may be handed out once a sync that comes after it has returned `Ok`,
 /// because from then on no crash takes it back. After a sync that gave up, each call that returns a `JournalFault`
 /// returns that one, until the file is opened again.
 #[derive(Drop)]
 pub struct Journaled<D: Device> {
+    pub(crate) alloc: Global,
     pub(crate) register: Register,
     pub(crate) tape: Tape<D>,
     /// The lines that are yet to be written.
     pub(crate) group: Vec<u8>,
     /// Why a sync gave up, if one did.
     pub(crate) fault: Option<JournalFault>,
+    pub(crate) snapshots: Snapshots,
+}
+
+/// Says when a journal gives way to a snapshot.
+#[derive(Clone, Copy, Drop)]
+pub(crate) struct Snapshots {
+    /// With fewer bytes of lines than this, a journal is short enough.
+    least: usize,
+    /// With how many bytes of lines the next snapshot is due.
+    due: usize,
+}
+
+impl Snapshots {
+    /// Makes no snapshot due, however long the journal is.
+    pub(crate) fn never() -> Snapshots {
+        Snapshots::of(usize::MAX)
+    }
+
+    /// Makes the first snapshot due when the journal has this many bytes of lines.
+    fn of(least: usize) -> Snapshots {
+        Snapshots { least, due: least }
+    }
+
+    /// Makes the next snapshot due when the journal has twice as many bytes of lines as now.
+    fn put_off(&mut self, written: usize) {
+        self.due = self.least.max(written.saturating_mul(2));
+    }
 }
 
 /// Puts the line of an event behind the others, if it was answered `Done`. There is room for it.
@@ -158,5 +190,87 @@ impl<D: Device> Journaled<D> {
         ensures { result ≡ length self.now.group.items }
     {
         self.group.len()
+    }
+
+    /// Lets [`Journaled::sync_or_compact`] put a snapshot in the place of the journal once this has so many bytes of
+    /// lines, and later whenever it has twice as many as behind the last snapshot. Without this call it never does.
+    pub fn compact_from(&mut self, least: usize)
+        ensures { IsUnchanged self.old self.new }
+    {
+        self.snapshots = Snapshots::of(least);
+    }
+}
+
+impl<D: NextTape> Journaled<D> {
+    /// Syncs as [`Journaled::sync`] does. If the journal had grown before to the length that [`Journaled::compact_from`]
+    /// says, a snapshot takes its place. If none can be made, the journal stays, and the next try comes when it has twice
+    /// the length that it has now.
+    pub fn sync_or_compact(&mut self) -> Result<(), JournalFault>
+        requires ready { IsReady D.Device.seen D.Device.may_leave self.old }
+        ensures ready { IsReady D.Device.seen D.Device.may_leave self.new }
+        ensures settled { OnOk result ((stored : Store) (orders : List Order) (answers : List Answer)
+            → IsUnderWay D.Device.seen D.Device.may_leave stored orders answers self.old
+            → IsUnderWay D.Device.seen D.Device.may_leave (store_in self.new.register) [] [] self.new) }
+        ensures register { self.new.register ≡ self.old.register }
+        ensures any_moment { (stored : Store) (orders : List Order) (answers : List Answer)
+            → IsUnderWay D.Device.seen D.Device.may_leave stored orders answers self.old
+            → LeavesOnly D.Device.moment D.Device.left_since self.old.tape.device self.new.tape.device
+            (λ c. HasFence c × StandsAfterSome orders answers stored c) }
+        ensures broken { IfErr result (λ why. self.new.fault ≡ Some why) }
+        ensures stays { IfSome self.old.fault (λ why. (result ≡ Err why) × (self.new.fault ≡ Some why)) }
+    {
+        if self.tape.end < self.snapshots.due {
+            return self.sync();
+        }
+        let done = self.compact();
+        self.snapshots.put_off(self.tape.end);
+        match (done, self.fault) {
+            (Err(_), Some(fault)) => Err(fault),
+            _ => Ok(()),
+        }
+    }
+
+    /// Syncs, and puts a snapshot of the register in the place of the journal, which is short then. What
+    /// [`Journaled::sync`] says of a crash holds here as well. Gives up as `sync` and `snapshot` do, and as
+    /// `journal::compact` does. After a snapshot that gave up, all lines are on the disk, and the journal can be
+    /// written on.
+    pub fn compact(&mut self) -> Result<(), JournalFault>
+        requires ready { IsReady D.Device.seen D.Device.may_leave self.old }
+        ensures ready { IsReady D.Device.seen D.Device.may_leave self.new }
+        ensures settled { self.new.fault ≡ None → (stored : Store) (orders : List Order) (answers : List Answer)
+            → IsUnderWay D.Device.seen D.Device.may_leave stored orders answers self.old
+            → IsUnderWay D.Device.seen D.Device.may_leave (store_in self.new.register) [] [] self.new }
+        ensures done { OnOk result (self.new.fault ≡ None) }
+        ensures stays { IfSome self.old.fault (λ why. (result ≡ Err why) × (self.new.fault ≡ Some why)) }
+        ensures register { self.new.register ≡ self.old.register }
+        ensures any_moment { (stored : Store) (orders : List Order) (answers : List Answer)
+            → IsUnderWay D.Device.seen D.Device.may_leave stored orders answers self.old
+            → LeavesOnly D.Device.moment D.Device.left_since self.old.tape.device self.new.tape.device
+            (λ c. HasFence c × StandsAfterSome orders answers stored c) }
+    {
+        self.sync()?;
+        let next = self.tape.device.next_tape(self.alloc)?;
+        let next = snapshot(self.alloc, &self.register, next)?;
+        self.give_way(next)
+    }
+
+    /// Lets a snapshot of the register take the place of the journal. Gives up as `journal::compact` does, and then the
+    /// file is to be opened again.
+    fn give_way(&mut self, next: Tape<D>) -> Result<(), JournalFault>
+        requires home { AllHome self.old.register.owners }
+        requires settled { IsUnderWay D.Device.seen D.Device.may_leave (store_in self.old.register) [] [] self.old }
+        requires stored { IsOnDisk D.Device.seen D.Device.may_leave (store_in self.old.register) next }
+        ensures ready { IsReady D.Device.seen D.Device.may_leave self.new }
+        ensures settled { OnOk result (IsUnderWay D.Device.seen D.Device.may_leave (store_in self.new.register) [] [] self.new) }
+        ensures broken { IfErr result (λ why. self.new.fault ≡ Some why) }
+        ensures register { self.new.register ≡ self.old.register }
+        ensures any_moment { LeavesOnly D.Device.moment D.Device.left_since self.old.tape.device self.new.tape.device
+            (λ c. HasFence c × (book_of c ≡ Some (book_in self.old.register.owners))) }
+    {
+        if let Err(why) = journal::compact(&mut self.tape, next) {
+            self.fault = Some(why);
+            return Err(why);
+        }
+        Ok(())
     }
 }

@@ -29,7 +29,7 @@ mod snapshots;
 mod table_rows;
 mod writing;
 
-pub use blank_tape::blank;
+pub use blank_tape::{NextTape, blank};
 pub use journaled::Journaled;
 pub use kept::Kept;
 pub use laws::{

@@ -8,7 +8,7 @@ ghost use Rattle.hlr_kept.specs.Restored.{Restores};
 ghost use Rattle.hlr_kept.specs.Rows.{book_of};
 ghost use Rattle.hlr_kept.specs.UnderWay.{IsReady, IsUnderWay};
 
-use crate::journaled::Journaled;
+use crate::journaled::{Journaled, Snapshots};
 use crate::restoring::redo;
 use crate::writing::begin;
 use edit_lines::check_first_line;
@@ -105,9 +105,11 @@ pub fn open<U: Unread + Drop>(
     let mut tape = Tape::new(unread.into_device());
     begin(alloc, &mut tape, ends)?;
     Ok(Journaled {
+        alloc,
         register,
         tape,
         group: Vec::new(alloc),
         fault: None,
+        snapshots: Snapshots::never(),
     })
 }
