@@ -15,7 +15,7 @@ pub use Rattle.std.proofs.lemmas.Str.Parse.{digits_value-take-le}
 pub use Rattle.std.specs.Char.{digit_value, is_ascii_digit}
 pub use Rattle.std.specs.Io.KnownBytes.{Appends, Keeps}
 pub use Rattle.std.specs.List.{AllByRecursion, filter, flat_map, list_all, range_with_len}
-pub use Rattle.std.specs.Prelude.{Err, IfSome, IsErrAnd, MatchResult, Ok, Result, codes, decimal, map, nat_le, nat_lt, not, option_map, slice_index, slice_set, ℤ, ⊤, ◌&&◌, ◌==◌, ◌||◌, ◌⊎◌}
+pub use Rattle.std.specs.Prelude.{Err, IfSome, IsErrAnd, MatchResult, Ok, OnErr, OnOk, Result, codes, decimal, map, nat_le, nat_lt, not, option_map, slice_index, slice_set, ℤ, ⊤, ◌&&◌, ◌==◌, ◌||◌, ◌⊎◌}
 pub use Rattle.std.specs.Result.{is_err}
 pub use Rattle.std.specs.Str.Parse.{ExplainsUnsignedError, HasUnsignedDigitsIfOk, ParsesBool, ParsesUnsigned, digits_value, without_leading_plus}
 pub use Rattle.std.specs.declared.num.ParseIntError.{ParseIntError}
@@ -40,6 +40,10 @@ pub use Rattle.hlr_core.specs.declared.event.Event.TheVariants.{AccessData, AddA
 pub use Rattle.hlr_core.specs.declared.event.Reply.{Reply}
 pub use Rattle.hlr_core.specs.declared.order.Answer.{Answer}
 pub use Rattle.hlr_core.specs.declared.order.Order.{Order}
+pub use Rattle.hlr_kept.specs.Rows.{book_of, book_of_lines}
+pub use Rattle.hlr_kept.specs.Runs.{IsOnDisk, StandsAfterSome}
+pub use Rattle.hlr_kept.specs.UnderWay.{IsReady, IsUnchanged, IsUnderWay}
+pub use Rattle.hlr_kept.specs.declared.journaled.Journaled.{Journaled}
 pub use Rattle.hlr_owners.proofs.HomeLemmas.{cut_home_of_all, home_of_all}
 pub use Rattle.hlr_owners.specs.Answered.{MayAnswer, is_loose}
 pub use Rattle.hlr_owners.specs.Owners.{AllHome, OwnersState, store_in}
@@ -49,6 +53,10 @@ pub use Rattle.hlr_owners.specs.Store.{Store, slots_of}
 pub use Rattle.hlr_workers.proofs.UnseenLemmas.{recut_unseen, seen_as, stands_unseen, step_unseen}
 pub use Rattle.hlr_workers.specs.Standing.{Asked, Cut, Engaged, IsSettled, Stands, Took, TookNext, answers_with, events_in}
 pub use Rattle.itoa.proofs.Decimal.{length_four, length_one, length_pair}
+pub use Rattle.journal.specs.Lines.{HasFence, lines, text}
+pub use Rattle.journal.specs.declared.tape.Tape.{Tape}
+pub use Rattle.journal_file.specs.Device.{LeavesOnly}
+pub use Rattle.journal_file.specs.declared.fault.JournalFault.{JournalFault}
 pub use Rattle.mr_node.proofs.PageLemmas.{is_emptied}
 pub use Rattle.mr_node.specs.Pages.{IsPage}
 pub use Rattle.mr_node.specs.Rows.{key_of_pair}
@@ -76,8 +84,10 @@ pub use Rattle.tatp_rows.specs.declared.refusal.Refusal.TheVariants.{Field, Synt
 pub use Rattle.hlr.specs.Command.{Command}
 pub use Rattle.hlr.specs.Fields.{number_field, number_fields, ◌>>=◌}
 pub use Rattle.hlr.specs.Inside.{AddsAnswer, Answers, AreAnswered, AreBrokenOff, AskFor, HasAnswered, HasCome, HasComeTo, HasComeToEnd, HasTaken, IsAtRest, IsOwed, IsUnderway, WritesOwed, kind_of, replies_text, report_on, signed_at, with_sight, word_of_report}
+pub use Rattle.hlr.specs.Journaled.{AreReadBy, RanJournaled, StandsFor, Wrote}
+pub use Rattle.hlr.specs.JournaledInside.{AreCutOff, AreKept, AreSynced, HasComeKept, HasHeld, HasKept, JoinsAnswer, KeepsNext, Syncs, has_stopped}
 pub use Rattle.hlr.specs.Lines.{bytes_text, decimals_text, hexes_text, number_line, numbers_text, ok_line, recut_line, region_line, reply_line, total_line}
-pub use Rattle.hlr.specs.Options.{Spells, Tells, flag_text, parts_rule, program, threads_rule, with_version, zone_rule}
+pub use Rattle.hlr.specs.Options.{Spells, Tells, flag_text, journal_rule, parts_rule, program, snapshot_rule, threads_rule, with_version, zone_rule}
 pub use Rattle.hlr.specs.Orders.{answer_in, order_of, orders_of, recut_answer_in, recut_order}
 pub use Rattle.hlr.specs.Outgoing.{Adds, AddsFront, AddsWhole, Outgoing, outgoing}
 pub use Rattle.hlr.specs.Records.{bounds_of, command_named, command_of, field, word_named}

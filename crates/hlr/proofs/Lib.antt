@@ -2,6 +2,7 @@ pub mod Common
 pub mod FieldFacts
 pub mod OptionFacts
 pub mod RecordFacts
+pub mod JournaledFacts
 pub mod LineFacts
 pub mod OrderFacts
 pub mod OwedFacts

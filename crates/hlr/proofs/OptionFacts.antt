@@ -1,5 +1,5 @@
 -- What a parse of the program's words gives.
-use Rattle.hlr.proofs.Common.{◌≡◌, refl, sym, subst, ◌∙◌, ℕ, List, [], Option, Some, None, Bool, true, false, ap, IfSome, Result, Ok, Err, codes, digits_value, without_leading_plus, ParsesBool, ParsesUnsigned, ExplainsUnsignedError, HasUnsignedDigitsIfOk, ParseIntError, ParseBoolError, OkIff-at_ok, App, Rule, Text, FailsBy, HasKind, Kinds, HasMatchesOf, fault_of, found_of, is_simple, is_simple_and_free, matches_of, new_app, one_of, one_text, rows_of, with_rule, ArgMatches, Error, one_text-rows, flag_text, parts_rule, threads_rule, with_version, zone_rule, Spells, Tells}
+use Rattle.hlr.proofs.Common.{◌≡◌, refl, sym, subst, ◌∙◌, ℕ, List, [], Option, Some, None, Bool, true, false, ap, IfSome, Result, Ok, Err, codes, digits_value, without_leading_plus, ParsesBool, ParsesUnsigned, ExplainsUnsignedError, HasUnsignedDigitsIfOk, ParseIntError, ParseBoolError, OkIff-at_ok, App, Rule, Text, FailsBy, HasKind, Kinds, HasMatchesOf, fault_of, found_of, is_simple, is_simple_and_free, matches_of, new_app, one_of, one_text, rows_of, with_rule, ArgMatches, Error, one_text-rows, flag_text, journal_rule, parts_rule, snapshot_rule, threads_rule, with_version, zone_rule, Spells, Tells}
 use Rattle.clap.specs.Words.{ReadsOne}
 use Rattle.hlr.specs.Options.{program}
 
@@ -13,7 +13,7 @@ unfolding program
 program_free = refl
 
 -- the program is built from its options
-pub program_is : with_rule (with_rule (with_rule (with_version (new_app (codes "hlr"))) parts_rule) zone_rule) threads_rule ≡ program
+pub program_is : with_rule (with_rule (with_rule (with_rule (with_rule (with_version (new_app (codes "hlr"))) parts_rule) zone_rule) threads_rule) journal_rule) snapshot_rule ≡ program
 unfolding program
 program_is = refl
 
@@ -67,7 +67,16 @@ pub with_zone : (app : App) (rule : Rule) → app ≡ with_rule (with_version (n
     → with_rule app rule ≡ with_rule (with_rule (with_version (new_app (codes "hlr"))) parts_rule) zone_rule
 with_zone app rule a r = rw (a, r) refl
 
-pub program_from : (app : App) (rule : Rule) → app ≡ with_rule (with_rule (with_version (new_app (codes "hlr"))) parts_rule) zone_rule → rule ≡ threads_rule → with_rule app rule ≡ program
+pub with_threads : (app : App) (rule : Rule) → app ≡ with_rule (with_rule (with_version (new_app (codes "hlr"))) parts_rule) zone_rule → rule ≡ threads_rule
+    → with_rule app rule ≡ with_rule (with_rule (with_rule (with_version (new_app (codes "hlr"))) parts_rule) zone_rule) threads_rule
+with_threads app rule a r = rw (a, r) refl
+
+pub with_journal : (app : App) (rule : Rule) → app ≡ with_rule (with_rule (with_rule (with_version (new_app (codes "hlr"))) parts_rule) zone_rule) threads_rule → rule ≡ journal_rule
+    → with_rule app rule ≡ with_rule (with_rule (with_rule (with_rule (with_version (new_app (codes "hlr"))) parts_rule) zone_rule) threads_rule) journal_rule
+with_journal app rule a r = rw (a, r) refl
+
+pub program_from : (app : App) (rule : Rule) → app ≡ with_rule (with_rule (with_rule (with_rule (with_version (new_app (codes "hlr"))) parts_rule) zone_rule) threads_rule) journal_rule
+    → rule ≡ snapshot_rule → with_rule app rule ≡ program
 program_from app rule a r = rw (a, r) program_is
 
 -- what a number that was read from a text is

@@ -2,6 +2,8 @@
 use Rattle.std.specs.Prelude.{ℕ, List, codes}
 use Rattle.csv.specs.declared.error.ErrorKind.{ErrorKind}
 use Rattle.csv.specs.declared.error.ErrorKind.TheVariants as kind
+use Rattle.journal_file.specs.declared.fault.JournalFault.{JournalFault}
+use Rattle.journal_file.specs.declared.fault.JournalFault.TheVariants as journal
 use Rattle.hlr.specs.declared.fault.Fault.{Fault}
 use Rattle.hlr.specs.declared.fault.Fault.TheVariants.{Memory, Field, Thread, Read, Write}
 
@@ -29,3 +31,12 @@ read_fault_of (kind.Utf8 pos err) = Read
 read_fault_of (kind.UnequalLengths pos expected len) = Read
 read_fault_of (kind.Serialize text) = Read
 read_fault_of (kind.Deserialize pos err) = Read
+
+-- what the program says of a journal that it can't open
+abbrev pub opening_words : JournalFault → List ℕ
+opening_words journal.Memory = codes "no memory"
+opening_words journal.Failed = codes "read fault: the journal can't be made or read; see to its path, its rights and its disk"
+opening_words journal.Full = codes "read fault: the journal has more than 2^62 bytes"
+opening_words journal.Locked = codes "read fault: another process has the journal open; end that one first"
+opening_words journal.NoJournal = codes "read fault: the file is no journal; name another one, or restore a copy of it"
+opening_words journal.BadLine = codes "read fault: the journal is damaged or of another version; restore a copy of it"

@@ -2,6 +2,8 @@ pub mod Command
 pub mod Fault
 pub mod Fields
 pub mod Inside
+pub mod Journaled
+pub mod JournaledInside
 pub mod Lines
 pub mod Options
 pub mod Orders

@@ -1,9 +1,10 @@
 //! The faults that end a run early.
 ghost use Rattle.std.specs.Prelude.{◌≡◌};
 ghost use Rattle.csv.specs.Reading.{error_kind};
-ghost use Rattle.hlr.specs.Fault.{fault_code, fault_words, read_fault_of};
+ghost use Rattle.hlr.specs.Fault.{fault_code, fault_words, opening_words, read_fault_of};
 
 use csv::ErrorKind;
+use journal_file::JournalFault;
 use thiserror::Error;
 
 /// A fault that ended a run early. No store is left after it.
@@ -61,5 +62,30 @@ pub fn read_fault(error: csv::Error) -> Fault
     match error.into_kind() {
         ErrorKind::OutOfMemory => Fault::Memory,
         _ => Fault::Read,
+    }
+}
+
+/// What the program says of a journal that it can't write, and what to do.
+pub const UNWRITTEN: &str =
+    "write fault: the journal can't be written; see to its disk, and start again";
+
+/// Returns what the program says of a journal that it can't open, and what to do.
+pub fn opening_words(why: JournalFault) -> &'static str
+    ensures { result.now ≡ opening_words why }
+{
+    match why {
+        JournalFault::Memory => "no memory",
+        JournalFault::Failed => {
+            "read fault: the journal can't be made or read; see to its path, its rights and its disk"
+        }
+        JournalFault::Full => "read fault: the journal has more than 2^62 bytes",
+        JournalFault::Locked =>
+            "read fault: another process has the journal open; end that one first",
+        JournalFault::NoJournal => {
+            "read fault: the file is no journal; name another one, or restore a copy of it"
+        }
+        JournalFault::BadLine => {
+            "read fault: the journal is damaged or of another version; restore a copy of it"
+        }
     }
 }

@@ -1,8 +1,8 @@
 //! The options of the program.
-ghost use Rattle.std.specs.Prelude.{◌≡◌, IfOk, IfSome, map, codes, false};
-ghost use Rattle.clap.specs.Words.{app_of, fault_of, found_of, matches_of, one_of, rows_of, rule_of};
+ghost use Rattle.std.specs.Prelude.{◌≡◌, IfOk, IfSome, map, codes, false, option_map};
+ghost use Rattle.clap.specs.Words.{app_of, fault_of, found_of, matches_of, first_of, one_of, rows_of, rule_of};
 ghost use Rattle.clap.specs.Kinds.{FailsBy};
-ghost use Rattle.hlr.specs.Options.{parts_rule, threads_rule, zone_rule, program, Spells, Tells, OptionsOf, InRange};
+ghost use Rattle.hlr.specs.Options.{journal_rule, parts_rule, snapshot_rule, threads_rule, zone_rule, program, Spells, Tells, OptionsOf, InRange};
 
 use clap::builder::ValueParser;
 use clap::{Arg, ArgAction, ArgMatches, Command, Error};
@@ -12,6 +12,9 @@ use tatp_rows::GREATEST_WIDTH;
 
 /// The version that `--version` prints.
 const VERSION: &str = "0.4.0";
+
+/// The most MB that `--snapshot-at` may give, which are a terabyte.
+const GREATEST_SNAPSHOT_AT: u32 = 1_048_576;
 
 /// What the program is, in the first line of `--help`.
 const ABOUT: &str =
@@ -51,8 +54,9 @@ BITS are 10 digits 0 or 1, HEXES are 10 hexadecimal digits, and BYTES are 20. Th
 4294967295. The types A and F are 1 to 4, D and E are 0 to 255, and I is 0 or 1. The hour T is 0, 8 or 16, and the
 hour U is 1 to 24. X is a number like N, C is three letters A to Z, and B is five.
 
-A run starts without subscribers and keeps none. It ends with its input, or after 1048576 records. A blank line gets
-no reply. The reply to a record that isn't a command, or can't be done, is refused,CODE,NAME, with one of these:
+A run starts without subscribers and keeps none, except with --journal. It ends with its input, or after 1048576
+records. A blank line gets no reply. The reply to a record that isn't a command, or can't be done, is
+refused,CODE,NAME, with one of these:
 
   1 Memory          2 Field           3 NoSubscriber    4 NoNumber        5 NoAccess        6 NoFacility
   7 NoForwarding    8 NoDestination   9 Exists         10 NumberTaken    11 Moving         12 NoPart
@@ -71,6 +75,11 @@ and below TO, and publishes their counts. What a part gives away is a loose piec
 Until then, commands for its subscribers get the reply refused,11,Moving. A bound S between two parts is the first
 subscriber of the second one. When a part is divided or dissolved, the numbers of all later parts rise or fall by one.
 What a dissolved part had published is taken back, and is unposted in the part that gets its subscribers.
+
+With --journal, each change of a row is on the disk before its reply is written, and a later run with the same file
+begins with these rows. It opens the parts that --parts gives, and nothing is published at first. Only one process can
+use a file at a time, and --threads can't be used with it. A journal that has grown to the megabytes of --snapshot-at
+gives way to a short one with the same rows, for which replies wait meanwhile.
 
 Because propose only places bounds between zones, set --zone to your highest S divided by 32, rounded up. Because it
 counts only what is published, post every part first.
@@ -93,17 +102,21 @@ Add a subscriber to the first of two parts, publish its counts, and show them:
   views,2
 
 The status is 0, or 1 after 'hlr: no memory', 'hlr: no thread', 'hlr: read fault' or 'hlr: write fault', or 2 if an
-option is wrong.";
+option is wrong. Of a journal, the line of a fault says what to do.";
 
 /// The options of the program.
 #[derive(Clone, Copy, Debug, PartialEq, Eq)]
-pub struct Options {
+pub struct Options<'a> {
     /// How many parts share the subscribers at first, 1..=16.
     pub parts: u8,
     /// How many subscribers a zone has, 1..=524,288.
     pub width: u32,
     /// Whether parts work in threads of their own.
     pub threads: bool,
+    /// The path of the journal that keeps the rows, if they are to be kept.
+    pub journal: Option<&'a str>,
+    /// How many MB of 1,048,576 bytes the journal may have before a snapshot takes its place, 1..=1,048,576.
+    pub snapshot_at: u32,
 }
 
 /// Makes the option `--parts N`.
@@ -143,6 +156,32 @@ fn threads_arg<'a>(alloc: Global) -> Arg<'a>
         .action(ArgAction::SetTrue)
 }
 
+/// Makes the option `--journal FILE`.
+fn journal_arg<'a>(alloc: Global) -> Arg<'a>
+    ensures rule { rule_of result ≡ journal_rule }
+    ensures local { result.global ≡ false }
+{
+    Arg::new(alloc, "journal")
+        .long("journal")
+        .value_name("FILE")
+        .help("Keeps the rows in the journal FILE, which is made if there is none")
+}
+
+/// Makes the option `--snapshot-at MB`.
+fn snapshot_arg<'a>(alloc: Global) -> Arg<'a>
+    ensures rule { rule_of result ≡ snapshot_rule }
+    ensures local { result.global ≡ false }
+{
+    Arg::new(alloc, "snapshot-at")
+        .long("snapshot-at")
+        .value_name("MB")
+        .help(
+            "Shortens the journal once it has MB megabytes, and then whenever it has doubled, 1 to 1048576",
+        )
+        .value_parser(ValueParser::signed(1, i64::from(GREATEST_SNAPSHOT_AT)))
+        .default_value("64")
+}
+
 /// Makes the program with its options.
 fn program_command<'a>(alloc: Global) -> Result<Command<'a>, AllocError>
     ensures { IfOk result (λ command. app_of command ≡ program) }
@@ -153,7 +192,9 @@ fn program_command<'a>(alloc: Global) -> Result<Command<'a>, AllocError>
         .after_help(FORMATS)
         .arg(parts_arg(alloc))?
         .arg(zone_arg(alloc))?
-        .arg(threads_arg(alloc))
+        .arg(threads_arg(alloc))?
+        .arg(journal_arg(alloc))?
+        .arg(snapshot_arg(alloc))
 }
 
 /// Reads the number that `--parts` spells.
@@ -177,25 +218,47 @@ fn read_threads(matches: &ArgMatches<'_>) -> Option<bool>
     matches.get_one::<bool>("threads")
 }
 
+/// Returns the path that `--journal` gives, if it is given.
+fn read_journal<'a>(matches: &ArgMatches<'a>) -> Option<&'a str>
+    ensures { option_map (λ path. path.now) result ≡ first_of (codes "journal") (rows_of (found_of matches.now)) }
+{
+    matches.get_str("journal")
+}
+
+/// Reads the number that `--snapshot-at` spells.
+fn read_snapshot_at(matches: &ArgMatches<'_>) -> Option<u32>
+    ensures { IfSome result (Spells (one_of (codes "snapshot-at") (rows_of (found_of matches.now)))) }
+{
+    matches.get_one::<u32>("snapshot-at")
+}
+
 /// Reads the options from the words with which the program was started; the first word is the program's name. An error
 /// has a kind that the words call for (a request for help or for the version is an error, too), or `OutOfMemory`.
-pub fn read_options<'a>(alloc: Global, words: &'a [&'a str]) -> Result<Options, Error>
+pub fn read_options<'a>(alloc: Global, words: &'a [&'a str]) -> Result<Options<'a>, Error>
     ensures range { IfOk result InRange }
     ensures words { IfOk result (OptionsOf (matches_of program (map (λ word. word.now) words.now))) }
     ensures kinds { FailsBy (fault_of program (map (λ word. word.now) words.now)) result }
 {
     let command = program_command(alloc)?;
     let matches = command.try_get_matches_from(words)?;
+    let Some(snapshot_at) = read_snapshot_at(&matches) else {
+        return Err(Error::from(AllocError));
+    };
     match (
         read_parts(&matches),
         read_zone(&matches),
         read_threads(&matches),
     ) {
-        (Some(parts), Some(width), Some(threads)) if can_open(parts, width) => Ok(Options {
-            parts,
-            width,
-            threads,
-        }),
+        (Some(parts), Some(width), Some(threads))
+            if can_open(parts, width) && (1..=GREATEST_SNAPSHOT_AT).contains(&snapshot_at) => {
+            Ok(Options {
+                parts,
+                width,
+                threads,
+                journal: read_journal(&matches),
+                snapshot_at,
+            })
+        }
         _ => Err(Error::from(AllocError)),
     }
 }

@@ -162,7 +162,7 @@ fn recut<H: Threads + Wait, S: Sink>(
 }
 
 /// Returns the fault of a run whose sink has stalled.
-fn sink_fault(done: Result<(), Stalled>) -> Result<(), Fault>
+pub fn sink_fault(done: Result<(), Stalled>) -> Result<(), Fault>
     ensures { MatchResult done (λ unit. result ≡ Ok unit) (λ why. result ≡ Err fault.Write) }
 {
     match done {

@@ -261,7 +261,7 @@ pub fn answer_all<T: Source, S: Sink>(
 
 /// Flushes the sink at the end of a run, unless the sink failed already. It returns `Write` if that fails, and
 /// otherwise the result of the run.
-fn finish<S: Sink>(sink: &mut S, done: Result<(), Fault>) -> Result<(), Fault>
+pub fn finish<S: Sink>(sink: &mut S, done: Result<(), Fault>) -> Result<(), Fault>
     requires { done ≢ Err fault.Field }
     ensures bytes { Keeps (S.taken sink.old) (S.taken sink.new) }
     ensures answer { (result ≡ done) ⊎ (result ≡ Err fault.Write) }

@@ -1,6 +1,7 @@
 //! What no clause says: readers and writers that are slow or fail, answers that come before a read may wait, the limit
 //! of records, and the options. Whole scripts lie in the repository's `tests/scripts`, each with its answers.
 mod any_bytes;
+mod journaled;
 mod owed;
 mod parts;
 
@@ -1101,29 +1102,70 @@ fn faults_have_codes_and_words(rt: HostRuntime) {
 
 #[test]
 fn options_are_read(rt: HostRuntime) {
-    let given: [(&[&str], u8, u32, bool); 6] = [
-        (&["hlr"], 1, 524_288, false),
-        (&["hlr", "--zone", "1"], 1, 1, false),
-        (
-            &["hlr", "--zone=524288", "--parts", "16"],
-            16,
-            524_288,
-            false,
-        ),
-        (&["hlr", "--parts=2", "--zone=4"], 2, 4, false),
-        (&["hlr", "--threads"], 1, 524_288, true),
-        (&["hlr", "--parts=2", "--threads", "--zone=4"], 2, 4, true),
-    ];
-    for (words, parts, width, threads) in given {
-        let options = read_options(rt.alloc(), words).ok();
-        let wanted = Options {
-            parts,
-            width,
-            threads,
-        };
-        assert_eq!(rt; options, Some(wanted));
+    let plain = Options {
+        parts: 1,
+        width: 524_288,
+        threads: false,
+        journal: None,
+        snapshot_at: 64,
+    };
+    let mut given = [(&["hlr"] as &[&str], plain); 8];
+    given[1] = (&["hlr", "--zone", "1"], Options { width: 1, ..plain });
+    given[2] = (
+        &["hlr", "--zone=524288", "--parts", "16"],
+        Options { parts: 16, ..plain },
+    );
+    given[3] = (
+        &["hlr", "--parts=2", "--zone=4"],
+        Options {
+            parts: 2,
+            width: 4,
+            ..plain
+        },
+    );
+    given[4] = (
+        &["hlr", "--threads"],
+        Options {
+            threads: true,
+            ..plain
+        },
+    );
+    given[5] = (
+        &["hlr", "--journal", "a b"],
+        Options {
+            journal: Some("a b"),
+            ..plain
+        },
+    );
+    given[6] = (
+        &["hlr", "--snapshot-at", "1"],
+        Options {
+            snapshot_at: 1,
+            ..plain
+        },
+    );
+    given[7] = (
+        &["hlr", "--snapshot-at=1048576", "--journal=b"],
+        Options {
+            journal: Some("b"),
+            snapshot_at: 1_048_576,
+            ..plain
+        },
+    );
+    for (words, wanted) in given {
+        assert_eq!(rt; read_options(rt.alloc(), words).ok(), Some(wanted));
     }
-    let refused: [(&[&str], OptionFault, bool); 10] = [
+    let refused: [(&[&str], OptionFault, bool); 12] = [
+        (
+            &["hlr", "--snapshot-at", "0"],
+            OptionFault::ValueValidation,
+            true,
+        ),
+        (
+            &["hlr", "--snapshot-at", "1048577"],
+            OptionFault::ValueValidation,
+            true,
+        ),
         (&["hlr", "--parts", "0"], OptionFault::ValueValidation, true),
         (
             &["hlr", "--parts", "17"],

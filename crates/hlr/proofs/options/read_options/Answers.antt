@@ -11,7 +11,7 @@ returns-in_err-matches-clause-kinds c =
 pub returns-in-Some-Some-Some-clause-words : goal.returns-in-Some-Some-Some-clause-words
 returns-in-Some-Some-Some-clause-words c =
     let same = found_rows _ _ _ c.in_ok-command.ensures c.in_ok-matches.ensures.matches in
-    (rw same at c.in-Some-Some-Some.ensures, rw same at c.in-Some-Some-Some.ensures', rw same at c.in-Some-Some-Some.ensures'')
+    (rw same at c.in-Some-Some-Some.ensures, rw same at c.in-Some-Some-Some.ensures', rw same at c.in-Some-Some-Some.ensures'', rw same at c.read_journal.ensures, rw same at c.in-Some.ensures)
 
 pub returns-in-Some-Some-Some-clause-kinds : goal.returns-in-Some-Some-Some-clause-kinds
 returns-in-Some-Some-Some-clause-kinds c = found_kinds _ _ c.in_ok-command.ensures c.in_ok-matches.ensures.kinds
