@@ -27,6 +27,8 @@ mod opening;
 mod restoring;
 mod snapshots;
 mod table_rows;
+#[cfg(test)]
+mod tests;
 mod writing;
 
 pub use blank_tape::{NextTape, blank};
