@@ -1,0 +1,4 @@
+pub mod Common
+pub mod BaseLemmas
+pub mod GroupsLemmas
+pub mod TreeLemmas

@@ -1,0 +1,117 @@
+-- What the calls of a tree of groups say of its rows.
+use Rattle.group_tree.proofs.Common.{◌≡◌, ◌∙◌, refl, sym, ap, subst, ℕ, ◌+◌, ◌<◌, ◌≤◌, ◌==◌, false, true, List, [], ◌∷◌, ◌++◌, length, Option, Some, None, option_map, IsSome, is_some, arith, append-nil, AllByRecursion, nat_tests, IsOrderedBy, row_at, with_row, with_row_at, without_row, by_test, each_found, each-with_row, each-with_row_at, each-without_row, key_found, ordered-with_row, ordered-with_row_at, ordered-without_row, from-weaker, with_row-front, with_row-skip, with_row_at-here, without_row-here, KeysBelow, KeysFrom, key_of_pair, value_at, AreGroups, IsBase, base_of, rows_of}
+use Rattle.group_tree.proofs.BaseLemmas.{base_base}
+use Rattle.group_tree.proofs.GroupsLemmas.{Around, HaveLaws, IsFilled, around, found_beside, group_at, put_beside, removed_beside, replaced_beside}
+
+-- no value at a key is no row at it
+pub no_pair : {V : Type 0} (key : ℕ) (rows : List (ℕ × V)) → None ≡ value_at key rows → row_at key_of_pair key rows ≡ None
+no_pair key rows e = none_of (row_at key_of_pair key rows) e
+  where
+    none_of : {V : Type 0} (found : Option (ℕ × V)) → None ≡ option_map (λ (p : ℕ × V). p.1) found → found ≡ None
+    none_of None e = refl
+    none_of (Some p) e = let wrong : ⊥ = cc in absurd wrong
+
+module _ {G R : Type 0} (listed : ℕ → G → List (ℕ × R)) (Holds : ℕ → G → Type 0) (span : ℕ) (laws : HaveLaws listed Holds span) (groups : List (ℕ × G)) (are : AreGroups listed Holds groups) (key base : ℕ) (at : base ≡ base_of span key) where
+  -- the groups around the one that was found
+  beside : (found : Option G) → found ≡ value_at base groups → Around listed Holds span laws (base_of span key) groups (group_at listed Holds span laws (base_of span key) found)
+  beside found e =
+      subst (λ o. Around listed Holds span laws (base_of span key) groups (group_at listed Holds span laws (base_of span key) o))
+      (ap (λ (b : ℕ). value_at b groups) (sym at) ∙ sym e)
+      (around listed Holds span laws (base_of span key) groups (base_base span laws.positive key) are.ordered are.each)
+
+  -- without a group there is no row
+  pub no_row : None ≡ value_at base groups → row_at key_of_pair key (rows_of listed groups) ≡ None
+  no_row e = found_beside listed Holds span laws key groups [] (beside None e)
+
+  module _ (group : G) (found : Some group ≡ value_at base groups) where
+    around_it : Around listed Holds span laws (base_of span key) groups ((base_of span key, group) ∷ [])
+    around_it = beside (Some group) found
+
+    one_group : (some : G) → rows_of listed ((base_of span key, some) ∷ []) ≡ listed (base_of span key) some
+    one_group some = append-nil (listed (base_of span key) some)
+
+    -- the group that was found keeps the rules
+    pub its_rules : Holds (base_of span key) group
+    its_rules = around_it.here_each.0.0
+
+    -- a row is where its group has it
+    pub its_row : row_at key_of_pair key (rows_of listed groups) ≡ row_at key_of_pair key (listed (base_of span key) group)
+    its_row = found_beside listed Holds span laws key groups ((base_of span key, group) ∷ []) around_it ∙ ap (row_at key_of_pair key) (one_group group)
+
+    with_it : (new : G) → with_row_at key_of_pair base (base, new) groups ≡ around_it.front ++ (((base_of span key, new) ∷ []) ++ around_it.back)
+    with_it new =
+        subst (λ (b : ℕ). with_row_at key_of_pair b (b, new) groups ≡ around_it.front ++ (((base_of span key, new) ∷ []) ++ around_it.back)) (sym at)
+        (ap (with_row_at key_of_pair (base_of span key) (base_of span key, new)) around_it.list
+        ∙ with_row_at-here key_of_pair (base_of span key) (base_of span key, new) around_it.front (base_of span key, group) around_it.back around_it.below refl)
+
+    without_it : without_row key_of_pair base groups ≡ around_it.front ++ ([] ++ around_it.back)
+    without_it =
+        subst (λ (b : ℕ). without_row key_of_pair b groups ≡ around_it.front ++ ([] ++ around_it.back)) (sym at)
+        (ap (without_row key_of_pair (base_of span key)) around_it.list
+        ∙ without_row-here key_of_pair (base_of span key) around_it.front (base_of span key, group) around_it.back around_it.below refl)
+
+    module _ (new : G) where
+      -- what an edit of the group does to all rows
+      pub put_there : (row : R) → listed (base_of span key) new ≡ with_row key_of_pair (key, row) (listed (base_of span key) group) → rows_of listed (with_row_at key_of_pair base (base, new) groups) ≡ with_row key_of_pair (key, row) (rows_of listed groups)
+      put_there row e =
+          ap (rows_of listed) (with_it new)
+          ∙ put_beside listed Holds span laws key groups ((base_of span key, group) ∷ []) around_it ((base_of span key, new) ∷ []) row
+          (one_group new ∙ e ∙ ap (with_row key_of_pair (key, row)) (sym (one_group group)))
+
+      pub replaced_there : (row : R) → listed (base_of span key) new ≡ with_row_at key_of_pair key (key, row) (listed (base_of span key) group) → rows_of listed (with_row_at key_of_pair base (base, new) groups) ≡ with_row_at key_of_pair key (key, row) (rows_of listed groups)
+      replaced_there row e =
+          ap (rows_of listed) (with_it new)
+          ∙ replaced_beside listed Holds span laws key groups ((base_of span key, group) ∷ []) around_it ((base_of span key, new) ∷ []) row
+          (one_group new ∙ e ∙ ap (with_row_at key_of_pair key (key, row)) (sym (one_group group)))
+
+      pub removed_there : listed (base_of span key) new ≡ without_row key_of_pair key (listed (base_of span key) group) → rows_of listed (with_row_at key_of_pair base (base, new) groups) ≡ without_row key_of_pair key (rows_of listed groups)
+      removed_there e =
+          ap (rows_of listed) (with_it new)
+          ∙ removed_beside listed Holds span laws key groups ((base_of span key, group) ∷ []) around_it ((base_of span key, new) ∷ [])
+          (one_group new ∙ e ∙ ap (without_row key_of_pair key) (sym (one_group group)))
+
+      -- the groups with another one in its place
+      pub are_with : Holds (base_of span key) new → 1 ≤ length (listed (base_of span key) new) → AreGroups listed Holds (with_row_at key_of_pair base (base, new) groups)
+      are_with holds some =
+          let it : IsFilled listed Holds span laws (base, new) = subst (λ (b : ℕ). IsFilled listed Holds span laws (b, new)) (sym at) (holds, some) in
+          record {
+            ordered = ordered-with_row_at key_of_pair base (base, new) groups refl are.ordered;
+            each = each-with_row_at key_of_pair (IsFilled listed Holds span laws) base (base, new) groups it are.each;
+          }
+
+    -- a group whose last row goes
+    pub removed_whole : without_row key_of_pair key (listed (base_of span key) group) ≡ [] → rows_of listed (without_row key_of_pair base groups) ≡ without_row key_of_pair key (rows_of listed groups)
+    removed_whole e =
+        ap (rows_of listed) without_it
+        ∙ removed_beside listed Holds span laws key groups ((base_of span key, group) ∷ []) around_it [] (sym (ap (without_row key_of_pair key) (one_group group) ∙ e))
+
+    pub are_without : AreGroups listed Holds (without_row key_of_pair base groups)
+    are_without = record {
+      ordered = ordered-without_row key_of_pair base groups are.ordered;
+      each = each-without_row key_of_pair (IsFilled listed Holds span laws) base groups are.each;
+    }
+
+  module _ (missing : None ≡ value_at base groups) (new : G) (row : R) (lone : listed (base_of span key) new ≡ (key, row) ∷ []) where
+    around_none : Around listed Holds span laws (base_of span key) groups []
+    around_none = beside None missing
+
+    -- the first row of a group
+    pub put_first : rows_of listed (with_row key_of_pair (base, new) groups) ≡ with_row key_of_pair (key, row) (rows_of listed groups)
+    put_first =
+        subst (λ (b : ℕ). rows_of listed (with_row key_of_pair (b, new) groups) ≡ with_row key_of_pair (key, row) (rows_of listed groups)) (sym at)
+        (ap (λ gs. rows_of listed (with_row key_of_pair (base_of span key, new) gs)) around_none.list
+        ∙ ap (rows_of listed) (with_row-skip key_of_pair (base_of span key, new) around_none.front around_none.back around_none.below)
+        ∙ ap (λ gs. rows_of listed (around_none.front ++ gs)) (with_row-front key_of_pair (base_of span key, new) around_none.back behind)
+        ∙ put_beside listed Holds span laws key groups [] around_none ((base_of span key, new) ∷ []) row (append-nil (listed (base_of span key) new) ∙ lone))
+      where
+        behind : KeysFrom (base_of span key + 1) around_none.back
+        behind = from-weaker key_of_pair (base_of span key + 1) (base_of span key + span) around_none.back (omega (arith, laws.positive)) around_none.behind
+
+    pub are_more : Holds (base_of span key) new → AreGroups listed Holds (with_row key_of_pair (base, new) groups)
+    are_more holds =
+        let some : 1 ≤ length (listed (base_of span key) new) = rw lone (omega arith) in
+        let it : IsFilled listed Holds span laws (base, new) = subst (λ (b : ℕ). IsFilled listed Holds span laws (b, new)) (sym at) (holds, some) in
+        record {
+          ordered = ordered-with_row key_of_pair (base, new) groups (no_pair base groups missing) are.ordered;
+          each = each-with_row key_of_pair (IsFilled listed Holds span laws) (base, new) groups it are.each;
+        }

@@ -1,0 +1,71 @@
+//! The facilities of a subscriber as a group.
+use crate::group::{Group, keyed};
+use arrayvec::ArrayVec;
+use row_groups::Facilities;
+use tatp_rows::{Facility, LAST_SUBSCRIBER};
+
+impl Group<Facility> for Facilities {
+    ghost use Rattle.tatp_rows.specs.Keys.{facility_key};
+    ghost use Rattle.group_tree.specs.Tables.{HoldsFacilities, facilities_listed, subscriber_span};
+
+    ghost span = { subscriber_span };
+
+    ghost row_key = { facility_key };
+
+    ghost listed = { facilities_listed };
+
+    ghost Holds = { HoldsFacilities };
+
+    fn base(key: u64) -> u64 {
+        key / 65_536 * 65_536
+    }
+
+    fn key_of(row: &Facility) -> u64 {
+        row.key()
+    }
+
+    fn of(row: &Facility) -> Self {
+        Facilities::of(row)
+    }
+
+    fn len(&self) -> usize {
+        Facilities::len(self)
+    }
+
+    fn find(&self, key: u64) -> Option<Facility> {
+        if key % 256 != 0 {
+            return None;
+        }
+        self.get((key / 65_536) as u32, (key / 256 % 256) as u8)
+    }
+
+    fn rows(&self, base: u64) -> ArrayVec<(u64, Facility), 4> {
+        let s_id = base / 65_536;
+        if s_id == 0 || s_id > u64::from(LAST_SUBSCRIBER) {
+            return ArrayVec::new();
+        }
+        let rows = self.rows_from(s_id as u32, 0);
+        keyed::<Facility, Facilities>(rows.as_slice())
+    }
+
+    fn insert(&mut self, row: &Facility) -> bool {
+        Facilities::insert(self, row).is_ok()
+    }
+
+    fn replace(&mut self, row: &Facility) -> Option<Facility> {
+        Facilities::replace(self, row)
+    }
+
+    fn remove(&mut self, key: u64) -> Option<Facility> {
+        if key % 256 != 0 {
+            return None;
+        }
+        Facilities::remove(self, (key / 65_536) as u32, (key / 256 % 256) as u8)
+    }
+
+    ghost use Rattle.group_tree.specs.Rules.{span_positive, facility_group_rules};
+
+    ghost positive = { span_positive };
+
+    ghost rules = { facility_group_rules };
+}
