@@ -1,5 +1,5 @@
 -- The names of crates below and of this crate's specs that proofs cite, passed on from one place. Declares nothing.
-pub use Rattle.std.proofs.Common.{◌≡◌, ◌≢◌, ◌∙◌, refl, sym, ap, subst,  ℕ, zero, suc, ◌+◌, ◌-◌, ◌*◌, ◌/◌, ◌%◌, ◌^◌, ◌<◌, ◌≤◌, ◌==◌, nat_lt, nat_le, Bool, true, false, List, [], ◌∷◌, ◌++◌, length, map, take, drop, get_or, Option, Some, None, option_map, IsSome, is_some, ok_or, Result, Ok, Err, IfOk, IfErr, OnErr, arith, rules, append_assoc, append-nil, length-append, ◌⊎◌, inl, inr}
+pub use Rattle.std.proofs.Common.{◌≡◌, ◌≢◌, ◌∙◌, refl, sym, ap, subst,  ℕ, zero, suc, ◌+◌, ◌-◌, ◌*◌, ◌/◌, ◌%◌, ◌^◌, ◌<◌, ◌≤◌, ◌==◌, nat_lt, nat_le, Bool, true, false, List, [], ◌∷◌, ◌++◌, length, map, take, drop, get_or, Option, Some, None, option_map, IsSome, is_some, ok_or, Result, Ok, Err, IfOk, IfErr, OnErr, arith, rules, if◌then◌else◌, append_assoc, append-nil, length-append, ◌⊎◌, inl, inr}
 pub use Rattle.std.specs.List.{AllByRecursion, filter}
 pub use Rattle.std.proofs.Math.Nat.{div-mul-le_self, lt-div-mul-add, mul-div_cancel, mul-le-mul_right}
 pub use Rattle.std.proofs.lemmas.Bool.Decides.{nat_tests}
@@ -9,4 +9,8 @@ pub use Rattle.tatp_rows.proofs.AppendLemmas.{each-append, each-left, each-right
 pub use Rattle.tatp_rows.proofs.OrderedLemmas.{absent_below, by_test, each-weaker, each-with_row, each-with_row_at, each-without_row, each_found, filter_all, filter_none, key_found, ordered-with_row, ordered-with_row_at, ordered-without_row}
 pub use Rattle.tatp_rows.proofs.SpanLemmas.{below-weaker, from-weaker, row_at-absent, row_at-part, row_at-skip, with_row-front, with_row-part, with_row-skip, with_row_at-here, with_row_at-part, length-with_row, length-with_row_at, without_row-here, without_row-part}
 pub use Rattle.mr_node.specs.Rows.{KeysBelow, KeysFrom, key_limit, key_of_pair, value_at}
+pub use Rattle.tatp_rows.specs.declared.refusal.Back.{Back}
+pub use Rattle.tatp_rows.specs.declared.refusal.Refusal.{Refusal}
+pub use Rattle.tatp_rows.specs.declared.refusal.Refusal.TheVariants.{Exists, Memory}
+pub use Rattle.mr_subtree.specs.Trees.{IsHeightOf, IsInserted}
 pub use Rattle.group_tree.specs.Groups.{AreGroups, IsBase, IsGroupAt, IsPutAt, IsReplacedAt, base_of, rows_beside, rows_of}

@@ -1,7 +1,12 @@
 -- What the calls of a tree of groups say of its rows.
-use Rattle.group_tree.proofs.Common.{◌≡◌, ◌∙◌, refl, sym, ap, subst, ℕ, ◌+◌, ◌<◌, ◌≤◌, ◌==◌, false, true, List, [], ◌∷◌, ◌++◌, length, Option, Some, None, option_map, IsSome, is_some, arith, append-nil, AllByRecursion, nat_tests, IsOrderedBy, row_at, with_row, with_row_at, without_row, by_test, each_found, each-with_row, each-with_row_at, each-without_row, key_found, ordered-with_row, ordered-with_row_at, ordered-without_row, from-weaker, with_row-front, with_row-skip, with_row_at-here, without_row-here, KeysBelow, KeysFrom, key_of_pair, value_at, AreGroups, IsBase, base_of, rows_of}
+use Rattle.group_tree.proofs.Common.{◌≡◌, ◌∙◌, refl, sym, ap, subst, ℕ, ◌+◌, ◌<◌, ◌≤◌, ◌==◌, false, true, List, [], ◌∷◌, ◌++◌, length, Option, Some, None, option_map, IsSome, is_some, arith, append-nil, AllByRecursion, nat_tests, IsOrderedBy, row_at, with_row, with_row_at, without_row, by_test, each_found, each-with_row, each-with_row_at, each-without_row, key_found, ordered-with_row, ordered-with_row_at, ordered-without_row, from-weaker, length-with_row, with_row-front, with_row-skip, with_row_at-here, without_row-here, KeysBelow, KeysFrom, key_of_pair, value_at, AreGroups, IsBase, base_of, rows_of, Result, Ok, Err, if◌then◌else◌, Back, Refusal, Exists, Memory, IsInserted}
 use Rattle.group_tree.proofs.BaseLemmas.{base_base}
 use Rattle.group_tree.proofs.GroupsLemmas.{Around, HaveLaws, IsFilled, around, found_beside, group_at, put_beside, removed_beside, replaced_beside}
+
+-- the answer of an insertion, with the row in place of its group
+abbrev pub IsHandedOn : {G R : Type 0} → Result (Unit {0}) (Back G) → R → Result (Unit {0}) (Back R) → Type 0
+IsHandedOn (Ok u) row given = given ≡ Ok tt
+IsHandedOn (Err back) row given = given ≡ Err (record { why = back.why; item = row })
 
 -- no value at a key is no row at it
 pub no_pair : {V : Type 0} (key : ℕ) (rows : List (ℕ × V)) → None ≡ value_at key rows → row_at key_of_pair key rows ≡ None
@@ -11,7 +16,7 @@ no_pair key rows e = none_of (row_at key_of_pair key rows) e
     none_of None e = refl
     none_of (Some p) e = let wrong : ⊥ = cc in absurd wrong
 
-module _ {G R : Type 0} (listed : ℕ → G → List (ℕ × R)) (Holds : ℕ → G → Type 0) (span : ℕ) (laws : HaveLaws listed Holds span) (groups : List (ℕ × G)) (are : AreGroups listed Holds groups) (key base : ℕ) (at : base ≡ base_of span key) where
+module _ {G R : Type 0} {listed : ℕ → G → List (ℕ × R)} {Holds : ℕ → G → Type 0} {span : ℕ} (laws : HaveLaws listed Holds span) {groups : List (ℕ × G)} (are : AreGroups listed Holds groups) (key : ℕ) {base : ℕ} (at : base ≡ base_of span key) where
   -- the groups around the one that was found
   beside : (found : Option G) → found ≡ value_at base groups → Around listed Holds span laws (base_of span key) groups (group_at listed Holds span laws (base_of span key) found)
   beside found e =
@@ -79,6 +84,18 @@ module _ {G R : Type 0} (listed : ℕ → G → List (ℕ × R)) (Holds : ℕ �
             each = each-with_row_at key_of_pair (IsFilled listed Holds span laws) base (base, new) groups it are.each;
           }
 
+    -- a row that is put into its group
+    pub put_are : (new : G) (row : R) → listed (base_of span key) new ≡ with_row key_of_pair (key, row) (listed (base_of span key) group) → Holds (base_of span key) new → AreGroups listed Holds (with_row_at key_of_pair base (base, new) groups)
+    put_are new row e holds = are_with new holds (rw (e, length-with_row key_of_pair (key, row) (listed (base_of span key) group)) (omega arith))
+
+    pub put_answer : (new : G) (row : R) → row_at key_of_pair key (listed (base_of span key) group) ≡ None → listed (base_of span key) new ≡ with_row key_of_pair (key, row) (listed (base_of span key) group)
+        → IsInserted key row (rows_of listed groups) (rows_of listed (with_row_at key_of_pair base (base, new) groups)) (Ok tt)
+    put_answer new row free e = (its_row ∙ free, put_there new row e)
+
+    -- one that is refused
+    pub put_refused : (row : R) → IsSome (row_at key_of_pair key (listed (base_of span key) group)) → IsInserted key row (rows_of listed groups) (rows_of listed groups) (Err (record { why = Exists; item = row }))
+    put_refused row there = (refl, refl, sym (ap (λ o. if is_some o then Exists else Memory) its_row ∙ rw there refl))
+
     -- a group whose last row goes
     pub removed_whole : without_row key_of_pair key (listed (base_of span key) group) ≡ [] → rows_of listed (without_row key_of_pair base groups) ≡ without_row key_of_pair key (rows_of listed groups)
     removed_whole e =
@@ -115,3 +132,21 @@ module _ {G R : Type 0} (listed : ℕ → G → List (ℕ × R)) (Holds : ℕ �
           ordered = ordered-with_row key_of_pair (base, new) groups (no_pair base groups missing) are.ordered;
           each = each-with_row key_of_pair (IsFilled listed Holds span laws) (base, new) groups it are.each;
         }
+
+    -- what the addition of a group with one row makes of the groups
+    pub first_are : Holds (base_of span key) new → (answer : Result (Unit {0}) (Back G)) (after : List (ℕ × G)) → IsInserted base new groups after answer → AreGroups listed Holds after
+    first_are holds (Ok u) after h = subst (AreGroups listed Holds) (sym h.1) (are_more holds)
+    first_are holds (Err back) after h = subst (AreGroups listed Holds) (sym h.1) are
+
+    first_in : (after : List (ℕ × G)) → after ≡ with_row key_of_pair (base, new) groups → IsInserted key row (rows_of listed groups) (rows_of listed after) (Ok tt)
+    first_in after h = (no_row missing, ap (rows_of listed) h ∙ put_first)
+
+    first_refused : (after : List (ℕ × G)) (why : Refusal) → after ≡ groups → why ≡ (if is_some (row_at key_of_pair base groups) then Exists else Memory) → IsInserted key row (rows_of listed groups) (rows_of listed after) (Err (record { why = why; item = row }))
+    first_refused after why h w =
+        let memory : why ≡ Memory = w ∙ ap (λ o. if is_some o then Exists else Memory) (no_pair base groups missing) in
+        (refl, ap (rows_of listed) h, memory ∙ sym (ap (λ o. if is_some o then Exists else Memory) (no_row missing)))
+
+    -- and of the rows
+    pub first_answer : (answer : Result (Unit {0}) (Back G)) (after : List (ℕ × G)) (given : Result (Unit {0}) (Back R)) → IsInserted base new groups after answer → IsHandedOn answer row given → IsInserted key row (rows_of listed groups) (rows_of listed after) given
+    first_answer (Ok u) after given h same = subst (IsInserted key row (rows_of listed groups) (rows_of listed after)) (sym same) (first_in after h.1)
+    first_answer (Err back) after given h same = subst (IsInserted key row (rows_of listed groups) (rows_of listed after)) (sym same) (first_refused after back.why h.1 h.2)
