@@ -6,11 +6,13 @@ pub use Rattle.std.proofs.lemmas.Bool.Decides.{nat_tests}
 pub use Rattle.tatp_rows.specs.Ordered.{IsOrderedBy, row_at, with_row, with_row_at, without_row}
 pub use Rattle.tatp_rows.specs.Spans.{AllBelow, AllFrom, keys_below, keys_from}
 pub use Rattle.tatp_rows.proofs.AppendLemmas.{each-append, each-left, each-right, ordered-append}
-pub use Rattle.tatp_rows.proofs.OrderedLemmas.{absent_below, by_test, each-weaker, each-with_row, each-with_row_at, each-without_row, each_found, filter_all, filter_none, key_found, ordered-with_row, ordered-with_row_at, ordered-without_row}
+pub use Rattle.tatp_rows.proofs.OrderedLemmas.{absent_below, by_test, each-weaker, each-with_row, each-with_row_at, each-without_row, each_found, filter_all, filter_none, key_found, with_row_at_absent, without_row_absent, ordered-with_row, ordered-with_row_at, ordered-without_row}
 pub use Rattle.tatp_rows.proofs.SpanLemmas.{below-weaker, from-weaker, row_at-absent, row_at-part, row_at-skip, with_row-front, with_row-part, with_row-skip, with_row_at-here, with_row_at-part, length-with_row, length-with_row_at, without_row-here, without_row-part}
 pub use Rattle.mr_node.specs.Rows.{KeysBelow, KeysFrom, key_limit, key_of_pair, value_at}
 pub use Rattle.tatp_rows.specs.declared.refusal.Back.{Back}
 pub use Rattle.tatp_rows.specs.declared.refusal.Refusal.{Refusal}
 pub use Rattle.tatp_rows.specs.declared.refusal.Refusal.TheVariants.{Exists, Memory}
 pub use Rattle.mr_subtree.specs.Trees.{IsHeightOf, IsInserted}
-pub use Rattle.group_tree.specs.Groups.{AreGroups, IsBase, IsGroupAt, IsPutAt, IsReplacedAt, base_of, rows_beside, rows_of}
+pub use Rattle.group_tree.specs.Groups.{AreGroups, IsBase, IsGroupAt, IsPutAt, IsReplacedAt, base_of, rows_beside, rows_of, Grouped, IsHeightOfGroups, AreGroupsApart}
+pub use Rattle.mr_subtree.specs.Trees.{IsRoot}
+pub use Rattle.std.proofs.lemmas.List.Elements.{filter-append}

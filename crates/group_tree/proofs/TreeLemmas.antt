@@ -1,7 +1,7 @@
 -- What the calls of a tree of groups say of its rows.
-use Rattle.group_tree.proofs.Common.{◌≡◌, ◌∙◌, refl, sym, ap, subst, ℕ, ◌+◌, ◌<◌, ◌≤◌, ◌==◌, false, true, List, [], ◌∷◌, ◌++◌, length, Option, Some, None, option_map, IsSome, is_some, arith, append-nil, AllByRecursion, nat_tests, IsOrderedBy, row_at, with_row, with_row_at, without_row, by_test, each_found, each-with_row, each-with_row_at, each-without_row, key_found, ordered-with_row, ordered-with_row_at, ordered-without_row, from-weaker, length-with_row, with_row-front, with_row-skip, with_row_at-here, without_row-here, KeysBelow, KeysFrom, key_of_pair, value_at, AreGroups, IsBase, base_of, rows_of, Result, Ok, Err, if◌then◌else◌, Back, Refusal, Exists, Memory, IsInserted}
+use Rattle.group_tree.proofs.Common.{◌≡◌, ◌∙◌, refl, sym, ap, subst, ℕ, ◌+◌, ◌*◌, ◌<◌, ◌≤◌, ◌==◌, ◌≢◌, ok_or, Grouped, false, true, List, [], ◌∷◌, ◌++◌, length, Option, Some, None, option_map, IsSome, is_some, arith, append-nil, AllByRecursion, nat_tests, filter-append, filter_all, filter_none, each-weaker, keys_below, keys_from, rows_beside, with_row_at_absent, without_row_absent, length-with_row_at, IsHeightOf, IsHeightOfGroups, mul-le-mul_right, length-append, IfErr, IsOrderedBy, row_at, with_row, with_row_at, without_row, by_test, each_found, each-with_row, each-with_row_at, each-without_row, key_found, ordered-with_row, ordered-with_row_at, ordered-without_row, from-weaker, length-with_row, with_row-front, with_row-skip, with_row_at-here, without_row-here, KeysBelow, KeysFrom, key_of_pair, value_at, AreGroups, IsBase, base_of, rows_of, Result, Ok, Err, if◌then◌else◌, Back, Refusal, Exists, Memory, IsInserted}
 use Rattle.group_tree.proofs.BaseLemmas.{base_base}
-use Rattle.group_tree.proofs.GroupsLemmas.{Around, HaveLaws, IsFilled, around, found_beside, group_at, put_beside, removed_beside, replaced_beside}
+use Rattle.group_tree.proofs.GroupsLemmas.{Around, HaveLaws, IsFilled, around, found_beside, group_at, put_beside, removed_beside, replaced_beside, rows_below, rows_from, rows_of-append}
 
 -- the answer of an insertion, with the row in place of its group
 abbrev pub IsHandedOn : {G R : Type 0} → Result (Unit {0}) (Back G) → R → Result (Unit {0}) (Back R) → Type 0
@@ -16,6 +16,21 @@ no_pair key rows e = none_of (row_at key_of_pair key rows) e
     none_of None e = refl
     none_of (Some p) e = let wrong : ⊥ = cc in absurd wrong
 
+-- a list of no element
+emptied : {X : Type 0} (xs : List X) → length xs ≡ 0 → xs ≡ []
+emptied [] e = refl
+emptied (x ∷ xs) e = absurd (omega (arith, e))
+
+-- the rows from a key on, behind others; and none below it
+from_parts : {R : Type 0} (key : ℕ) (a b : List (ℕ × R)) → KeysBelow key a → KeysFrom key b → keys_from key_of_pair key (a ++ b) ≡ b
+from_parts key a b below from =
+    filter-append _ a b
+    ∙ ap (λ none. none ++ keys_from key_of_pair key b) (filter_none _ a (each-weaker (λ p less. grind (arith, nat_tests)) a below))
+    ∙ filter_all _ b (each-weaker (λ p least. grind (arith, nat_tests)) b from)
+
+below_none : {R : Type 0} (key : ℕ) (rows : List (ℕ × R)) → KeysFrom key rows → keys_below key_of_pair key rows ≡ []
+below_none key rows from = filter_none _ rows (each-weaker (λ p least. grind (arith, nat_tests)) rows from)
+
 module _ {G R : Type 0} {listed : ℕ → G → List (ℕ × R)} {Holds : ℕ → G → Type 0} {span : ℕ} (laws : HaveLaws listed Holds span) {groups : List (ℕ × G)} (are : AreGroups listed Holds groups) (key : ℕ) {base : ℕ} (at : base ≡ base_of span key) where
   -- the groups around the one that was found
   beside : (found : Option G) → found ≡ value_at base groups → Around listed Holds span laws (base_of span key) groups (group_at listed Holds span laws (base_of span key) found)
@@ -28,6 +43,28 @@ module _ {G R : Type 0} {listed : ℕ → G → List (ℕ × R)} {Holds : ℕ �
   pub no_row : None ≡ value_at base groups → row_at key_of_pair key (rows_of listed groups) ≡ None
   no_row e = found_beside listed Holds span laws key groups [] (beside None e)
 
+  -- and nothing to change
+  pub none_removed : None ≡ value_at base groups → rows_of listed groups ≡ without_row key_of_pair key (rows_of listed groups)
+  none_removed e = sym (without_row_absent key_of_pair key (rows_of listed groups) (no_row e))
+
+  pub none_replaced : None ≡ value_at base groups → (row : R) → rows_of listed groups ≡ with_row_at key_of_pair key (key, row) (rows_of listed groups)
+  none_replaced e row = sym (with_row_at_absent key_of_pair key (key, row) (rows_of listed groups) (no_row e))
+
+  pub none_there : None ≡ value_at base groups → None ≡ value_at key (rows_of listed groups)
+  none_there e = sym (ap (option_map (λ p. p.1)) (no_row e))
+
+  -- and none beside it
+  pub none_beside : None ≡ value_at base groups → rows_beside span key (rows_of listed groups) ≡ []
+  none_beside e =
+      let a = beside None e in
+      let low = base_of span key in
+      let front_below = rows_below listed Holds span laws low a.front (base_base span laws.positive key) a.front_each a.below in
+      let back_from = rows_from listed Holds span laws (low + span) a.back a.back_each a.behind in
+      ap (λ gs. rows_beside span key (rows_of listed gs)) a.list
+      ∙ ap (rows_beside span key) (rows_of-append listed Holds span laws a.front a.back)
+      ∙ ap (keys_below key_of_pair (low + span)) (from_parts low (rows_of listed a.front) (rows_of listed a.back) front_below (from-weaker key_of_pair low (low + span) (rows_of listed a.back) (omega arith) back_from))
+      ∙ below_none (low + span) (rows_of listed a.back) back_from
+
   module _ (group : G) (found : Some group ≡ value_at base groups) where
     around_it : Around listed Holds span laws (base_of span key) groups ((base_of span key, group) ∷ [])
     around_it = beside (Some group) found
@@ -39,9 +76,22 @@ module _ {G R : Type 0} {listed : ℕ → G → List (ℕ × R)} {Holds : ℕ �
     pub its_rules : Holds (base_of span key) group
     its_rules = around_it.here_each.0.0
 
+    its_size : 1 ≤ length (listed (base_of span key) group)
+    its_size = around_it.here_each.0.1
+
     -- a row is where its group has it
     pub its_row : row_at key_of_pair key (rows_of listed groups) ≡ row_at key_of_pair key (listed (base_of span key) group)
     its_row = found_beside listed Holds span laws key groups ((base_of span key, group) ∷ []) around_it ∙ ap (row_at key_of_pair key) (one_group group)
+
+    pub its_value : (value : Option R) → value ≡ value_at key (listed (base_of span key) group) → value ≡ value_at key (rows_of listed groups)
+    its_value value e = e ∙ sym (ap (option_map (λ p. p.1)) its_row)
+
+    -- a row that its group doesn't have
+    pub absent_removed : None ≡ value_at key (listed (base_of span key) group) → rows_of listed groups ≡ without_row key_of_pair key (rows_of listed groups)
+    absent_removed e = sym (without_row_absent key_of_pair key (rows_of listed groups) (no_pair key (rows_of listed groups) (its_value None e)))
+
+    pub absent_replaced : None ≡ value_at key (listed (base_of span key) group) → (row : R) → rows_of listed groups ≡ with_row_at key_of_pair key (key, row) (rows_of listed groups)
+    absent_replaced e row = sym (with_row_at_absent key_of_pair key (key, row) (rows_of listed groups) (no_pair key (rows_of listed groups) (its_value None e)))
 
     with_it : (new : G) → with_row_at key_of_pair base (base, new) groups ≡ around_it.front ++ (((base_of span key, new) ∷ []) ++ around_it.back)
     with_it new =
@@ -96,9 +146,19 @@ module _ {G R : Type 0} {listed : ℕ → G → List (ℕ × R)} {Holds : ℕ �
     pub put_refused : (row : R) → IsSome (row_at key_of_pair key (listed (base_of span key) group)) → IsInserted key row (rows_of listed groups) (rows_of listed groups) (Err (record { why = Exists; item = row }))
     put_refused row there = (refl, refl, sym (ap (λ o. if is_some o then Exists else Memory) its_row ∙ rw there refl))
 
+    -- a row that takes the place of another one
+    pub replaced_are : (new : G) (row : R) → listed (base_of span key) new ≡ with_row_at key_of_pair key (key, row) (listed (base_of span key) group) → Holds (base_of span key) new → AreGroups listed Holds (with_row_at key_of_pair base (base, new) groups)
+    replaced_are new row e holds =
+        are_with new holds (rw (e, length-with_row_at key_of_pair key (key, row) (listed (base_of span key) group)) its_size)
+
+    -- a row that is removed, and isn't the last one
+    pub removed_are : (new : G) (rest : ℕ) → rest ≡ length (listed (base_of span key) new) → rest ≢ 0 → Holds (base_of span key) new → AreGroups listed Holds (with_row_at key_of_pair base (base, new) groups)
+    removed_are new rest e some holds = are_with new holds (omega arith)
+
     -- a group whose last row goes
-    pub removed_whole : without_row key_of_pair key (listed (base_of span key) group) ≡ [] → rows_of listed (without_row key_of_pair base groups) ≡ without_row key_of_pair key (rows_of listed groups)
-    removed_whole e =
+    pub removed_whole : (new : G) (rest : ℕ) → listed (base_of span key) new ≡ without_row key_of_pair key (listed (base_of span key) group) → rest ≡ length (listed (base_of span key) new) → rest ≡ 0 → rows_of listed (without_row key_of_pair base groups) ≡ without_row key_of_pair key (rows_of listed groups)
+    removed_whole new rest rows size none =
+        let e : without_row key_of_pair key (listed (base_of span key) group) ≡ [] = sym rows ∙ emptied (listed (base_of span key) new) (sym size ∙ none) in
         ap (rows_of listed) without_it
         ∙ removed_beside listed Holds span laws key groups ((base_of span key, group) ∷ []) around_it [] (sym (ap (without_row key_of_pair key) (one_group group) ∙ e))
 
@@ -150,3 +210,34 @@ module _ {G R : Type 0} {listed : ℕ → G → List (ℕ × R)} {Holds : ℕ �
     pub first_answer : (answer : Result (Unit {0}) (Back G)) (after : List (ℕ × G)) (given : Result (Unit {0}) (Back R)) → IsInserted base new groups after answer → IsHandedOn answer row given → IsInserted key row (rows_of listed groups) (rows_of listed after) given
     first_answer (Ok u) after given h same = subst (IsInserted key row (rows_of listed groups) (rows_of listed after)) (sym same) (first_in after h.1)
     first_answer (Err back) after given h same = subst (IsInserted key row (rows_of listed groups) (rows_of listed after)) (sym same) (first_refused after back.why h.1 h.2)
+
+-- each group has one to four rows
+module _ {G R : Type 0} {listed : ℕ → G → List (ℕ × R)} {Holds : ℕ → G → Type 0} {span : ℕ} (laws : HaveLaws listed Holds span) where
+  fewer_groups : (groups : List (ℕ × G)) → AllByRecursion (IsFilled listed Holds span laws) groups → length groups ≤ length (rows_of listed groups)
+  fewer_groups [] each = omega arith
+  fewer_groups (p ∷ groups) each = omega (arith, fewer_groups groups each.1, each.0.1, length-append (listed p.0 p.1) (rows_of listed groups))
+
+  few_rows : (groups : List (ℕ × G)) → AllByRecursion (IsFilled listed Holds span laws) groups → length (rows_of listed groups) ≤ 4 * length groups
+  few_rows [] each = omega arith
+  few_rows (p ∷ groups) each = omega (arith, few_rows groups each.1, (laws.rules p.0 p.1 each.0.0).few, length-append (listed p.0 p.1) (rows_of listed groups))
+
+  pub height_of_rows : (groups : List (ℕ × G)) → AreGroups listed Holds groups → (height : ℕ) → IsHeightOf height (length groups) → IsHeightOfGroups height (length (rows_of listed groups))
+  height_of_rows groups are height h =
+      let low = fewer_groups groups are.each in
+      let high = few_rows groups are.each in
+      record {
+        low = λ some. omega (arith, h.low some, low);
+        high = omega (arith, h.high, high);
+      }
+
+  -- memory that is refused to a tree of groups, is refused to one of as many rows
+  pub memory_of_rows : (groups : List (ℕ × G)) → AreGroups listed Holds groups → (answer : Result (Unit {0}) (Back G)) (row : R) (given : Result (Unit {0}) (Back R)) → IfErr answer (λ back. back.why ≡ Memory → 32 ≤ length groups) → IsHandedOn answer row given → IfErr given (λ back. back.why ≡ Memory → 32 ≤ length (rows_of listed groups))
+  memory_of_rows groups are (Ok u) row given h same = subst (λ x. IfErr x (λ back. back.why ≡ Memory → 32 ≤ length (rows_of listed groups))) (sym same) tt
+  memory_of_rows groups are (Err back) row given h same =
+      subst (λ x. IfErr x (λ back. back.why ≡ Memory → 32 ≤ length (rows_of listed groups))) (sym same)
+      (λ why. let low = fewer_groups groups are.each in let wanted = h why in omega arith)
+
+-- what is known of any refusal
+pub of_refusal : {R : Type 0} (P : Type 0) (given : Result (Unit {0}) (Back R)) → P → IfErr given (λ back. back.why ≡ Memory → P)
+of_refusal P (Ok u) p = tt
+of_refusal P (Err back) p = λ why. p

@@ -1,6 +1,6 @@
-use Rattle.group_tree.proofs.Common.{◌≡◌, ◌∙◌, ap, sym, refl, base_of}
+use Rattle.group_tree.proofs.Common.{◌≡◌, ◌∙◌, ap, base_of, rows_beside, rows_of, []}
 use Rattle.group_tree.proofs.GroupsLemmas.{HaveLaws}
-use Rattle.group_tree.proofs.TreeLemmas.{first_answer, first_are, its_row, its_rules, no_row, put_answer, put_are, put_refused}
+use Rattle.group_tree.proofs.TreeLemmas.{first_answer, first_are, its_rules, memory_of_rows, none_beside, of_refusal, put_answer, put_are, put_refused}
 use Rattle.group_tree.proofs.tree.GroupTree.insert.Goals.{in-Ok, in-Err}
 use Rattle.group_tree.proofs.tree.GroupTree.insert.Goals as goal
 
@@ -51,3 +51,18 @@ returns-clause-answer g c =
     let found = c.in-Some.ensures ∙ c.get.ensures in
     let there = rw c.if-insert.false at c.insert-2.ensures.rows in
     rw (← c.self.view_is) (put_refused laws c.self.invariant (g.G.Group.row_key c.args.row) at c.in-Some.group found c.args.row there.0)
+
+pub returns-in_default-clause-first : goal.returns-in_default-clause-first
+returns-in_default-clause-first g c =
+    let laws : HaveLaws g.G.Group.listed g.G.Group.Holds g.G.Group.span = record { positive = g.met.G.Group.positive; rules = g.met.G.Group.rules } in
+    let at : c.base-base.result ≡ base_of g.G.Group.span (g.G.Group.row_key c.args.row) = c.base-base.ensures ∙ ap (base_of g.G.Group.span) c.key_of.ensures in
+    let missing = c.in_default.ensures ∙ c.get.ensures in
+    rw (← c.self.view_is) (of_refusal (rows_beside g.G.Group.span (g.G.Group.row_key c.args.row) (rows_of g.G.Group.listed c.self.inside.groups.rows) ≡ []) c.match-insert.result (none_beside laws c.self.invariant (g.G.Group.row_key c.args.row) at missing))
+
+pub returns-in_default-clause-memory : goal.returns-in_default-clause-memory
+returns-in_default-clause-memory g c =
+    let laws : HaveLaws g.G.Group.listed g.G.Group.Holds g.G.Group.span = record { positive = g.met.G.Group.positive; rules = g.met.G.Group.rules } in
+    rw (← c.self.view_is) (elim c.match-insert.branch [
+      | in-Ok w ↦ memory_of_rows laws c.self.inside.groups.rows c.self.invariant c.insert.result c.args.row c.match-insert.result c.insert.ensures.memory (rw w.in-Ok.is w.result-is)
+      | in-Err w ↦ memory_of_rows laws c.self.inside.groups.rows c.self.invariant c.insert.result c.args.row c.match-insert.result c.insert.ensures.memory (rw w.in-Err.is w.result-is)
+    ])
