@@ -13,6 +13,13 @@ pub use Rattle.tatp_rows.specs.declared.refusal.Back.{Back}
 pub use Rattle.tatp_rows.specs.declared.refusal.Refusal.{Refusal}
 pub use Rattle.tatp_rows.specs.declared.refusal.Refusal.TheVariants.{Exists, Memory}
 pub use Rattle.mr_subtree.specs.Trees.{IsHeightOf, IsInserted}
+pub use Rattle.std.specs.Prelude.{is_ok, IsTrue}
+pub use Rattle.tatp_rows.specs.Keys.{access_key, facility_key, forwarding_key, key_of}
+pub use Rattle.tatp_rows.specs.Rows.{AccessInfoRow, SpecialFacilityRow, CallForwardingRow, access_in_range, facility_in_range, forwarding_in_range, is_between, is_start_time}
+pub use Rattle.tatp_rows.specs.declared.ranges.TheConstants.{LAST_SUBSCRIBER}
+pub use Rattle.tatp_rows.proofs.RowLemmas.{between_from, between_is, both_from}
+pub use Rattle.row_groups.specs.Groups.{AreAccesses, AreFacilities, AreForwardings, IsPut, access_type, access_with, facility_type, facility_with, forwarding_start, forwarding_with}
+pub use Rattle.group_tree.specs.Tables.{HoldsAccesses, HoldsFacilities, HoldsForwardings, accesses_listed, facilities_listed, facility_span, forwardings_listed, listed_by, s_id_in, subscriber_span, type_in}
 pub use Rattle.group_tree.specs.Groups.{AreGroups, IsBase, IsGroupAt, IsPutAt, IsReplacedAt, base_of, rows_beside, rows_of, Grouped, IsHeightOfGroups, AreGroupsApart}
 pub use Rattle.mr_subtree.specs.Trees.{IsRoot}
 pub use Rattle.std.proofs.lemmas.List.Elements.{filter-append}

@@ -2,3 +2,9 @@ pub mod Common
 pub mod BaseLemmas
 pub mod GroupsLemmas
 pub mod TreeLemmas
+pub mod PlacedLemmas
+pub mod TypeLemmas
+pub mod AccessLemmas
+pub mod FacilityLemmas
+pub mod HourLemmas
+pub mod ForwardingLemmas

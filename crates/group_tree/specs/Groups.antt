@@ -31,6 +31,7 @@ pub record IsGroupAt {R : Type 0} (span base : ℕ) (rows : List (ℕ × R)) : T
   pub from : KeysFrom base rows
   pub below : KeysBelow (base + span) rows
   pub few : length rows ≤ 4
+  pub small : base + span ≤ key_limit
 
 -- the rows of all groups, in order
 abbrev pub rows_of : {G R : Type 0} → (ℕ → G → List (ℕ × R)) → List (ℕ × G) → List (ℕ × R)

@@ -5,9 +5,9 @@ use Rattle.tatp_rows.specs.declared.ranges.TheConstants.{LAST_SUBSCRIBER}
 use Rattle.row_groups.specs.Groups.{AreAccesses, AreFacilities, AreForwardings, access_type, access_with, facility_type, facility_with, forwarding_start, forwarding_with}
 use Rattle.group_tree.specs.Groups.{IsBase}
 
--- the rows of a group that lies at a key, where keys in it rise in units of the rows' own keys
-abbrev pub listed_by : {R : Type 0} → ℕ → (R → ℕ) → (ℕ → R → R) → ℕ → List R → List (ℕ × R)
-listed_by unit place with base rows = map (λ row. (base + unit * place row, with base row)) rows
+-- the rows of a group with their keys, where a function tells the key from a row's place among its own
+abbrev pub listed_by : {R : Type 0} → (ℕ → ℕ) → (R → ℕ) → (R → R) → List R → List (ℕ × R)
+listed_by key_at place with rows = map (λ row. (key_at (place row), with row)) rows
 
 -- the subscriber of a key
 abbrev pub s_id_in : ℕ → ℕ
@@ -27,7 +27,7 @@ facility_span = 256
 
 -- the accesses of a group that lies at a key
 abbrev pub accesses_listed : ℕ → List AccessInfoRow → List (ℕ × AccessInfoRow)
-accesses_listed base rows = listed_by 256 access_type (λ at row. access_with (s_id_in at) row) base rows
+accesses_listed base rows = listed_by (λ kind. base + 256 * kind) access_type (access_with (s_id_in base)) rows
 
 -- a group of accesses that lies at the key of a subscriber
 pub record HoldsAccesses (base : ℕ) (rows : List AccessInfoRow) : Type 0 where
@@ -37,7 +37,7 @@ pub record HoldsAccesses (base : ℕ) (rows : List AccessInfoRow) : Type 0 where
 
 -- the facilities of a group that lies at a key
 abbrev pub facilities_listed : ℕ → List SpecialFacilityRow → List (ℕ × SpecialFacilityRow)
-facilities_listed base rows = listed_by 256 facility_type (λ at row. facility_with (s_id_in at) row) base rows
+facilities_listed base rows = listed_by (λ kind. base + 256 * kind) facility_type (facility_with (s_id_in base)) rows
 
 -- a group of facilities that lies at the key of a subscriber
 pub record HoldsFacilities (base : ℕ) (rows : List SpecialFacilityRow) : Type 0 where
@@ -47,7 +47,7 @@ pub record HoldsFacilities (base : ℕ) (rows : List SpecialFacilityRow) : Type 
 
 -- the forwardings of a group that lies at a key
 abbrev pub forwardings_listed : ℕ → List CallForwardingRow → List (ℕ × CallForwardingRow)
-forwardings_listed base rows = listed_by 1 forwarding_start (λ at row. forwarding_with (s_id_in at) (type_in at) row) base rows
+forwardings_listed base rows = listed_by (λ hour. base + hour) forwarding_start (forwarding_with (s_id_in base) (type_in base)) rows
 
 -- a group of forwardings that lies at the key of a facility
 pub record HoldsForwardings (base : ℕ) (rows : List CallForwardingRow) : Type 0 where

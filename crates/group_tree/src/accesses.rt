@@ -1,16 +1,23 @@
 //! The accesses of a subscriber as a group.
-use crate::group::{Group, keyed};
+use crate::group::{Group, Row, keyed};
 use arrayvec::ArrayVec;
 use row_groups::Accesses;
 use tatp_rows::{Access, LAST_SUBSCRIBER};
 
-impl Group<Access> for Accesses {
+impl Row for Access {
     ghost use Rattle.tatp_rows.specs.Keys.{access_key};
+
+    ghost row_key = { access_key };
+
+    fn key(&self) -> u64 {
+        Access::key(self)
+    }
+}
+
+impl Group<Access> for Accesses {
     ghost use Rattle.group_tree.specs.Tables.{HoldsAccesses, accesses_listed, subscriber_span};
 
     ghost span = { subscriber_span };
-
-    ghost row_key = { access_key };
 
     ghost listed = { accesses_listed };
 
@@ -20,11 +27,9 @@ impl Group<Access> for Accesses {
         key / 65_536 * 65_536
     }
 
-    fn key_of(row: &Access) -> u64 {
-        row.key()
-    }
-
     fn of(row: &Access) -> Self {
+        // For the prover: a row is in range, as its reader says.
+        let _s_id = row.s_id();
         Accesses::of(row)
     }
 
@@ -45,14 +50,18 @@ impl Group<Access> for Accesses {
             return ArrayVec::new();
         }
         let rows = self.rows_from(s_id as u32, 0);
-        keyed::<Access, Accesses>(rows.as_slice())
+        keyed(rows.as_slice())
     }
 
     fn insert(&mut self, row: &Access) -> bool {
+        // For the prover: a row is in range, as its reader says.
+        let _s_id = row.s_id();
         Accesses::insert(self, row).is_ok()
     }
 
     fn replace(&mut self, row: &Access) -> Option<Access> {
+        // For the prover: a row is in range, as its reader says.
+        let _s_id = row.s_id();
         Accesses::replace(self, row)
     }
 

@@ -1,16 +1,23 @@
 //! The facilities of a subscriber as a group.
-use crate::group::{Group, keyed};
+use crate::group::{Group, Row, keyed};
 use arrayvec::ArrayVec;
 use row_groups::Facilities;
 use tatp_rows::{Facility, LAST_SUBSCRIBER};
 
-impl Group<Facility> for Facilities {
+impl Row for Facility {
     ghost use Rattle.tatp_rows.specs.Keys.{facility_key};
+
+    ghost row_key = { facility_key };
+
+    fn key(&self) -> u64 {
+        Facility::key(self)
+    }
+}
+
+impl Group<Facility> for Facilities {
     ghost use Rattle.group_tree.specs.Tables.{HoldsFacilities, facilities_listed, subscriber_span};
 
     ghost span = { subscriber_span };
-
-    ghost row_key = { facility_key };
 
     ghost listed = { facilities_listed };
 
@@ -20,11 +27,9 @@ impl Group<Facility> for Facilities {
         key / 65_536 * 65_536
     }
 
-    fn key_of(row: &Facility) -> u64 {
-        row.key()
-    }
-
     fn of(row: &Facility) -> Self {
+        // For the prover: a row is in range, as its reader says.
+        let _s_id = row.s_id();
         Facilities::of(row)
     }
 
@@ -45,14 +50,18 @@ impl Group<Facility> for Facilities {
             return ArrayVec::new();
         }
         let rows = self.rows_from(s_id as u32, 0);
-        keyed::<Facility, Facilities>(rows.as_slice())
+        keyed(rows.as_slice())
     }
 
     fn insert(&mut self, row: &Facility) -> bool {
+        // For the prover: a row is in range, as its reader says.
+        let _s_id = row.s_id();
         Facilities::insert(self, row).is_ok()
     }
 
     fn replace(&mut self, row: &Facility) -> Option<Facility> {
+        // For the prover: a row is in range, as its reader says.
+        let _s_id = row.s_id();
         Facilities::replace(self, row)
     }
 

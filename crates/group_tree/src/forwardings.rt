@@ -1,16 +1,23 @@
 //! The forwardings of a facility as a group.
-use crate::group::{Group, keyed};
+use crate::group::{Group, Row, keyed};
 use arrayvec::ArrayVec;
 use row_groups::Forwardings;
 use tatp_rows::{Forwarding, LAST_SUBSCRIBER, is_between};
 
-impl Group<Forwarding> for Forwardings {
+impl Row for Forwarding {
     ghost use Rattle.tatp_rows.specs.Keys.{forwarding_key};
+
+    ghost row_key = { forwarding_key };
+
+    fn key(&self) -> u64 {
+        Forwarding::key(self)
+    }
+}
+
+impl Group<Forwarding> for Forwardings {
     ghost use Rattle.group_tree.specs.Tables.{HoldsForwardings, facility_span, forwardings_listed};
 
     ghost span = { facility_span };
-
-    ghost row_key = { forwarding_key };
 
     ghost listed = { forwardings_listed };
 
@@ -20,11 +27,9 @@ impl Group<Forwarding> for Forwardings {
         key / 256 * 256
     }
 
-    fn key_of(row: &Forwarding) -> u64 {
-        row.key()
-    }
-
     fn of(row: &Forwarding) -> Self {
+        // For the prover: a row is in range, as its reader says.
+        let _s_id = row.s_id();
         Forwardings::of(row)
     }
 
@@ -47,14 +52,18 @@ impl Group<Forwarding> for Forwardings {
             return ArrayVec::new();
         }
         let rows = self.rows_from(s_id as u32, sf_type, 0);
-        keyed::<Forwarding, Forwardings>(rows.as_slice())
+        keyed(rows.as_slice())
     }
 
     fn insert(&mut self, row: &Forwarding) -> bool {
+        // For the prover: a row is in range, as its reader says.
+        let _s_id = row.s_id();
         Forwardings::insert(self, row).is_ok()
     }
 
     fn replace(&mut self, row: &Forwarding) -> Option<Forwarding> {
+        // For the prover: a row is in range, as its reader says.
+        let _s_id = row.s_id();
         Forwardings::replace(self, row)
     }
 

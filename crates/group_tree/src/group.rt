@@ -1,18 +1,26 @@
 //! What a tree asks of its groups.
 ghost use Rattle.std.specs.Prelude.{◌≡◌, ◌∷◌, [], ◌<◌, ◌≤◌, ℕ, List, length, map};
 ghost use Rattle.tatp_rows.specs.Ordered.{without_row};
-ghost use Rattle.mr_node.specs.Rows.{key_of_pair, value_at};
+ghost use Rattle.mr_node.specs.Rows.{key_limit, key_of_pair, value_at};
 ghost use Rattle.group_tree.specs.Groups.{IsGroupAt, IsPutAt, IsReplacedAt, base_of};
 
 use arrayvec::ArrayVec;
 
+/// A row, which tells its key.
+pub trait Row: Copy + Default {
+    ghost row_key: { Self → ℕ };
+
+    /// Returns the key, which is below 18446744073709551614.
+    fn key(&self) -> u64
+        ensures value { result ≡ row_key self.now }
+        ensures small { result < key_limit };
+}
+
 /// Rows that lie together in one value of a tree. The keys of a group's rows lie in one span: from a multiple of `span`,
 /// which is the key of the group in its tree, up to the next one. In contracts, `listed` is the list of the rows with
 /// their keys, for a group that lies at a key, and `Holds` has the rules of such a group. No call takes memory.
-pub trait Group<R: Copy + Default>: Copy + Default {
+pub trait Group<R: Row>: Copy + Default {
     ghost span: { ℕ };
-
-    ghost row_key: { R → ℕ };
 
     ghost listed: { ℕ → Self → List (ℕ × R) };
 
@@ -22,14 +30,10 @@ pub trait Group<R: Copy + Default>: Copy + Default {
     fn base(key: u64) -> u64
         ensures { result ≡ base_of span key };
 
-    /// Returns the key of a row.
-    fn key_of(row: &R) -> u64
-        ensures { result ≡ row_key row.now };
-
     /// Makes the group that has one row.
     fn of(row: &R) -> Self
-        ensures rows { listed (base_of span (row_key row.now)) result ≡ (row_key row.now, row.now) ∷ [] }
-        ensures rules { Holds (base_of span (row_key row.now)) result };
+        ensures rows { listed (base_of span (R.row_key row.now)) result ≡ (R.row_key row.now, row.now) ∷ [] }
+        ensures rules { Holds (base_of span (R.row_key row.now)) result };
 
     /// Returns the number of rows.
     fn len(&self) -> usize
@@ -46,16 +50,16 @@ pub trait Group<R: Copy + Default>: Copy + Default {
 
     /// Puts a row among the others. It returns false if there is one with its key, and then the group is as it was.
     fn insert(&mut self, row: &R) -> bool
-        requires { Holds (base_of span (row_key row.now)) self.old }
-        ensures rows { IsPutAt (row_key row.now) row.now (listed (base_of span (row_key row.now)) self.old) (listed (base_of span (row_key row.now)) self.new) result }
-        ensures rules { Holds (base_of span (row_key row.now)) self.new };
+        requires { Holds (base_of span (R.row_key row.now)) self.old }
+        ensures rows { IsPutAt (R.row_key row.now) row.now (listed (base_of span (R.row_key row.now)) self.old) (listed (base_of span (R.row_key row.now)) self.new) result }
+        ensures rules { Holds (base_of span (R.row_key row.now)) self.new };
 
     /// Replaces the row with the same key, and returns it. If there is none, it returns `None`, and the group is as it
     /// was.
     fn replace(&mut self, row: &R) -> Option<R>
-        requires { Holds (base_of span (row_key row.now)) self.old }
-        ensures rows { IsReplacedAt (row_key row.now) row.now (listed (base_of span (row_key row.now)) self.old) (listed (base_of span (row_key row.now)) self.new) result }
-        ensures rules { Holds (base_of span (row_key row.now)) self.new };
+        requires { Holds (base_of span (R.row_key row.now)) self.old }
+        ensures rows { IsReplacedAt (R.row_key row.now) row.now (listed (base_of span (R.row_key row.now)) self.old) (listed (base_of span (R.row_key row.now)) self.new) result }
+        ensures rules { Holds (base_of span (R.row_key row.now)) self.new };
 
     /// Removes the row at a key, and returns it. If there is none, it returns `None`.
     fn remove(&mut self, key: u64) -> Option<R>
@@ -70,13 +74,13 @@ pub trait Group<R: Copy + Default>: Copy + Default {
 }
 
 /// Returns rows with their keys, in the same order.
-pub(crate) fn keyed<R: Copy + Default, G: Group<R>>(rows: &[R]) -> ArrayVec<(u64, R), 4>
+pub(crate) fn keyed<R: Row>(rows: &[R]) -> ArrayVec<(u64, R), 4>
     requires { length rows.now ≤ 4 }
-    ensures { result.items ≡ map (λ row. (G.row_key row, row)) rows.now }
+    ensures { result.items ≡ map (λ row. (R.row_key row, row)) rows.now }
 {
     let mut pairs = ArrayVec::new();
     for place in 0..rows.len() {
-        pairs.push((G::key_of(&rows[place]), rows[place]));
+        pairs.push((rows[place].key(), rows[place]));
     }
     pairs
 }

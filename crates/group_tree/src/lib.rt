@@ -11,5 +11,5 @@ mod group;
 mod pages;
 mod tree;
 
-pub use group::Group;
+pub use group::{Group, Row};
 pub use tree::GroupTree;

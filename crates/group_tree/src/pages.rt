@@ -5,12 +5,12 @@ ghost use Rattle.mr_node.specs.Pages.{IsPage};
 ghost use Rattle.mr_node.specs.Rows.{value_at};
 ghost use Rattle.group_tree.specs.Groups.{base_of};
 
-use crate::group::Group;
+use crate::group::{Group, Row};
 use crate::tree::GroupTree;
 use arrayvec::ArrayVec;
 
 /// Returns the keys of the groups to which keys belong.
-fn bases<R: Copy + Default, G: Group<R>>(keys: &[u64]) -> ArrayVec<u64, 16>
+fn bases<R: Row, G: Group<R>>(keys: &[u64]) -> ArrayVec<u64, 16>
     requires { length keys.now ≤ 16 }
     ensures { result.items ≡ map (base_of G.span) keys.now }
 {
@@ -33,7 +33,7 @@ fn walk_rows<R, A, F: Fn(&mut A, u64, &R)>(rows: &[(u64, R)], so_far: &mut A, f:
 }
 
 /// Appends rows whose keys are this one or higher.
-fn push_from<R: Copy + Default>(page: &mut ArrayVec<(u64, R), 128>, key: u64, rows: &[(u64, R)]) {
+fn push_from<R: Row>(page: &mut ArrayVec<(u64, R), 128>, key: u64, rows: &[(u64, R)]) {
     for place in 0..rows.len() {
         if key <= rows[place].0 {
             page.push(rows[place]);
@@ -41,7 +41,7 @@ fn push_from<R: Copy + Default>(page: &mut ArrayVec<(u64, R), 128>, key: u64, ro
     }
 }
 
-impl<R: Copy + Default, G: Group<R>> GroupTree<R, G> {
+impl<R: Row, G: Group<R>> GroupTree<R, G> {
     /// Hands each row, in the order of keys, to a closure, together with what the closure writes to.
     pub fn walk<A, F: Fn(&mut A, u64, &R)>(&self, so_far: &mut A, f: &F)
         requires { F.IsAlwaysCallable f.now }

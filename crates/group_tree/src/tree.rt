@@ -5,7 +5,7 @@ ghost use Rattle.mr_node.specs.Rows.{key_limit, key_of_pair, value_at};
 ghost use Rattle.mr_subtree.specs.Trees.{IsInserted};
 ghost use Rattle.group_tree.specs.Groups.{IsHeightOfGroups, rows_beside};
 
-use crate::group::Group;
+use crate::group::{Group, Row};
 use mr_subtree::SubTree;
 use std::alloc::Global;
 use std::marker::{Model, PhantomData};
@@ -13,12 +13,12 @@ use tatp_rows::{Back, Refusal};
 
 /// A tree of groups, seen as its height and the list of the pairs of key and row of all groups. The keys rise.
 #[derive(Drop)]
-pub struct GroupTree<R: Copy + Default, G: Group<R>> {
+pub struct GroupTree<R: Row, G: Group<R>> {
     pub(crate) groups: SubTree<G>,
     of: PhantomData<R>,
 }
 
-impl<R: Copy + Default, G: Group<R>> Model for GroupTree<R, G> {
+impl<R: Row, G: Group<R>> Model for GroupTree<R, G> {
     ghost use Rattle.group_tree.specs.Groups.{Grouped, grouped_code};
 
     ghost Value = { Grouped R };
@@ -32,7 +32,7 @@ impl<R: Copy + Default, G: Group<R>> Model for GroupTree<R, G> {
     ghost invariant = { λ t. AreGroups G.listed G.Holds t.groups.rows };
 }
 
-impl<R: Copy + Default, G: Group<R>> GroupTree<R, G> {
+impl<R: Row, G: Group<R>> GroupTree<R, G> {
     /// Makes a tree without rows. The root lies in the tree itself, so this always returns `Ok`.
     pub fn new(alloc: Global) -> Result<Self, Refusal>
         ensures tree { IfOk result (λ tree. (tree.rows ≡ []) × (tree.height ≡ 0)) }
@@ -74,10 +74,10 @@ impl<R: Copy + Default, G: Group<R>> GroupTree<R, G> {
     /// Replaces the row with the key of this one, and returns the old one. If there is none, it hands the new one back.
     /// It takes no memory.
     pub fn replace(&mut self, row: R) -> Result<R, R>
-        ensures rows { self.new ≡ record self.old { rows = with_row_at key_of_pair (G.row_key row) (G.row_key row, row) self.old.rows } }
-        ensures value { result ≡ ok_or (value_at (G.row_key row) self.old.rows) row }
+        ensures rows { self.new ≡ record self.old { rows = with_row_at key_of_pair (R.row_key row) (R.row_key row, row) self.old.rows } }
+        ensures value { result ≡ ok_or (value_at (R.row_key row) self.old.rows) row }
     {
-        let base = G::base(G::key_of(&row));
+        let base = G::base(row.key());
         let Some(mut group) = self.groups.get(base).copied() else {
             return Err(row);
         };
@@ -111,13 +111,12 @@ impl<R: Copy + Default, G: Group<R>> GroupTree<R, G> {
     /// refuses memory for the blank nodes. After a refusal the tree is as it was, and the row is handed back. Only the
     /// first row of a group may need memory, and none in a tree of fewer than 32 rows.
     pub fn insert(&mut self, row: R) -> Result<(), Back<R>>
-        requires { G.row_key row < key_limit }
-        ensures answer { IsInserted (G.row_key row) row self.old.rows self.new.rows result }
+        ensures answer { IsInserted (R.row_key row) row self.old.rows self.new.rows result }
         ensures kept { OnErr result (self.new ≡ self.old) }
-        ensures first { IfErr result (λ back. back.why ≡ Refusal.Memory → rows_beside G.span (G.row_key row) self.old.rows ≡ []) }
+        ensures first { IfErr result (λ back. back.why ≡ Refusal.Memory → rows_beside G.span (R.row_key row) self.old.rows ≡ []) }
         ensures memory { IfErr result (λ back. back.why ≡ Refusal.Memory → 32 ≤ length self.old.rows) }
     {
-        let base = G::base(G::key_of(&row));
+        let base = G::base(row.key());
         let Some(mut group) = self.groups.get(base).copied() else {
             return match self.groups.insert(base, G::of(&row)) {
                 Ok(()) => Ok(()),
