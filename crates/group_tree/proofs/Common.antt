@@ -1,5 +1,5 @@
 -- The names of crates below and of this crate's specs that proofs cite, passed on from one place. Declares nothing.
-pub use Rattle.std.proofs.Common.{◌≡◌, ◌≢◌, ◌∙◌, refl, sym, ap, subst,  ℕ, zero, suc, ◌+◌, ◌-◌, ◌*◌, ◌/◌, ◌%◌, ◌^◌, ◌<◌, ◌≤◌, ◌==◌, nat_lt, nat_le, Bool, true, false, List, [], ◌∷◌, ◌++◌, length, map, take, drop, get_or, Option, Some, None, option_map, IsSome, is_some, ok_or, Result, Ok, Err, IfOk, IfErr, OnErr, arith, rules, if◌then◌else◌, append_assoc, append-nil, length-append, ◌⊎◌, inl, inr}
+pub use Rattle.std.proofs.Common.{◌≡◌, ◌≢◌, ◌∙◌, refl, sym, ap, subst,  ℕ, zero, suc, ◌+◌, ◌-◌, ◌*◌, ◌/◌, ◌%◌, ◌^◌, ◌<◌, ◌≤◌, ◌==◌, nat_lt, nat_le, Bool, true, false, List, [], ◌∷◌, ◌++◌, length, map, take, drop, get_or, Option, Some, None, option_map, IsSome, is_some, ok_or, Result, Ok, Err, IfOk, IfErr, IfSome, OnErr, arith, rules, if◌then◌else◌, append_assoc, append-nil, length-append, ◌⊎◌, inl, inr}
 pub use Rattle.std.specs.List.{AllByRecursion, filter}
 pub use Rattle.std.proofs.Math.Nat.{div-mul-le_self, lt-div-mul-add, mul-div_cancel, mul-le-mul_right}
 pub use Rattle.std.proofs.lemmas.Bool.Decides.{nat_tests}
@@ -14,6 +14,11 @@ pub use Rattle.tatp_rows.specs.declared.refusal.Refusal.{Refusal}
 pub use Rattle.tatp_rows.specs.declared.refusal.Refusal.TheVariants.{Exists, Memory}
 pub use Rattle.mr_subtree.specs.Trees.{IsHeightOf, IsInserted}
 pub use Rattle.std.specs.Prelude.{is_ok, IsTrue}
+pub use Rattle.std.specs.Borrow.{Bor}
+pub use Rattle.std.proofs.lemmas.List.{length-take, map_more, take_all, take_more}
+pub use Rattle.mr_node.specs.Folds.{FoldsRows, WalksRows}
+pub use Rattle.mr_node.specs.Pages.{IsPage}
+pub use Rattle.mr_node.proofs.FoldLemmas.{folds_append}
 pub use Rattle.tatp_rows.specs.Keys.{access_key, facility_key, forwarding_key, key_of}
 pub use Rattle.tatp_rows.specs.Rows.{AccessInfoRow, SpecialFacilityRow, CallForwardingRow, access_in_range, facility_in_range, forwarding_in_range, is_between, is_start_time}
 pub use Rattle.tatp_rows.specs.declared.ranges.TheConstants.{LAST_SUBSCRIBER}

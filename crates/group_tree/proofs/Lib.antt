@@ -8,3 +8,4 @@ pub mod AccessLemmas
 pub mod FacilityLemmas
 pub mod HourLemmas
 pub mod ForwardingLemmas
+pub mod PageLemmas

@@ -21,19 +21,21 @@ emptied : {X : Type 0} (xs : List X) → length xs ≡ 0 → xs ≡ []
 emptied [] e = refl
 emptied (x ∷ xs) e = absurd (omega (arith, e))
 
--- the rows from a key on, behind others; and none below it
-from_parts : {R : Type 0} (key : ℕ) (a b : List (ℕ × R)) → KeysBelow key a → KeysFrom key b → keys_from key_of_pair key (a ++ b) ≡ b
-from_parts key a b below from =
+-- the rows from a key on, behind others that are below it, and where all are; and none below it
+pub front_gone : {R : Type 0} (key : ℕ) (a b : List (ℕ × R)) → KeysBelow key a → keys_from key_of_pair key (a ++ b) ≡ keys_from key_of_pair key b
+front_gone key a b below =
     filter-append _ a b
     ∙ ap (λ none. none ++ keys_from key_of_pair key b) (filter_none _ a (each-weaker (λ p less. grind (arith, nat_tests)) a below))
-    ∙ filter_all _ b (each-weaker (λ p least. grind (arith, nat_tests)) b from)
+
+pub all_kept : {R : Type 0} (key : ℕ) (rows : List (ℕ × R)) → KeysFrom key rows → keys_from key_of_pair key rows ≡ rows
+all_kept key rows from = filter_all _ rows (each-weaker (λ p least. grind (arith, nat_tests)) rows from)
 
 below_none : {R : Type 0} (key : ℕ) (rows : List (ℕ × R)) → KeysFrom key rows → keys_below key_of_pair key rows ≡ []
 below_none key rows from = filter_none _ rows (each-weaker (λ p least. grind (arith, nat_tests)) rows from)
 
 module _ {G R : Type 0} {listed : ℕ → G → List (ℕ × R)} {Holds : ℕ → G → Type 0} {span : ℕ} (laws : HaveLaws listed Holds span) {groups : List (ℕ × G)} (are : AreGroups listed Holds groups) (key : ℕ) {base : ℕ} (at : base ≡ base_of span key) where
   -- the groups around the one that was found
-  beside : (found : Option G) → found ≡ value_at base groups → Around listed Holds span laws (base_of span key) groups (group_at listed Holds span laws (base_of span key) found)
+  pub beside : (found : Option G) → found ≡ value_at base groups → Around listed Holds span laws (base_of span key) groups (group_at listed Holds span laws (base_of span key) found)
   beside found e =
       subst (λ o. Around listed Holds span laws (base_of span key) groups (group_at listed Holds span laws (base_of span key) o))
       (ap (λ (b : ℕ). value_at b groups) (sym at) ∙ sym e)
@@ -62,11 +64,11 @@ module _ {G R : Type 0} {listed : ℕ → G → List (ℕ × R)} {Holds : ℕ �
       let back_from = rows_from listed Holds span laws (low + span) a.back a.back_each a.behind in
       ap (λ gs. rows_beside span key (rows_of listed gs)) a.list
       ∙ ap (rows_beside span key) (rows_of-append listed Holds span laws a.front a.back)
-      ∙ ap (keys_below key_of_pair (low + span)) (from_parts low (rows_of listed a.front) (rows_of listed a.back) front_below (from-weaker key_of_pair low (low + span) (rows_of listed a.back) (omega arith) back_from))
+      ∙ ap (keys_below key_of_pair (low + span)) (front_gone low (rows_of listed a.front) (rows_of listed a.back) front_below ∙ all_kept low (rows_of listed a.back) (from-weaker key_of_pair low (low + span) (rows_of listed a.back) (omega arith) back_from))
       ∙ below_none (low + span) (rows_of listed a.back) back_from
 
   module _ (group : G) (found : Some group ≡ value_at base groups) where
-    around_it : Around listed Holds span laws (base_of span key) groups ((base_of span key, group) ∷ [])
+    pub around_it : Around listed Holds span laws (base_of span key) groups ((base_of span key, group) ∷ [])
     around_it = beside (Some group) found
 
     one_group : (some : G) → rows_of listed ((base_of span key, some) ∷ []) ≡ listed (base_of span key) some

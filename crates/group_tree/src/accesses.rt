@@ -1,8 +1,26 @@
 //! The accesses of a subscriber as a group.
-use crate::group::{Group, Row, keyed};
+ghost use Rattle.std.specs.Prelude.{◌≡◌, ◌≤◌, length};
+ghost use Rattle.mr_node.specs.Folds.{WalksRows};
+ghost use Rattle.group_tree.specs.Tables.{HoldsAccesses, accesses_listed};
+
+use crate::group::{Group, Row, keyed, push_from, walk_rows};
+use crate::tree::GroupTree;
 use arrayvec::ArrayVec;
 use row_groups::Accesses;
 use tatp_rows::{Access, LAST_SUBSCRIBER};
+
+/// Returns the rows with their keys, in order, of a group that lies at a key. If it is no key of a group, it returns none.
+fn rows_at(group: &Accesses, base: u64) -> ArrayVec<(u64, Access), 4>
+    ensures rows { HoldsAccesses base group.now → result.items ≡ accesses_listed base group.now }
+    ensures few { length result.items ≤ 4 }
+{
+    let s_id = base / 65_536;
+    if s_id == 0 || s_id > u64::from(LAST_SUBSCRIBER) {
+        return ArrayVec::new();
+    }
+    let rows = group.rows_from(s_id as u32, 0);
+    keyed(rows.as_slice())
+}
 
 impl Row for Access {
     ghost use Rattle.tatp_rows.specs.Keys.{access_key};
@@ -44,13 +62,8 @@ impl Group<Access> for Accesses {
         self.get((key / 65_536) as u32, (key / 256 % 256) as u8)
     }
 
-    fn rows(&self, base: u64) -> ArrayVec<(u64, Access), 4> {
-        let s_id = base / 65_536;
-        if s_id == 0 || s_id > u64::from(LAST_SUBSCRIBER) {
-            return ArrayVec::new();
-        }
-        let rows = self.rows_from(s_id as u32, 0);
-        keyed(rows.as_slice())
+    fn push_from(&self, base: u64, key: u64, page: &mut ArrayVec<(u64, Access), 132>) {
+        push_from(page, key, rows_at(self, base).as_slice());
     }
 
     fn insert(&mut self, row: &Access) -> bool {
@@ -77,4 +90,16 @@ impl Group<Access> for Accesses {
     ghost positive = { span_positive };
 
     ghost rules = { access_group_rules };
+}
+
+impl GroupTree<Access, Accesses> {
+    /// Hands each row, in the order of keys, to a closure, together with what the closure writes to.
+    pub fn walk<A, F: Fn(&mut A, u64, &Access)>(&self, so_far: &mut A, f: &F)
+        requires { F.IsAlwaysCallable f.now }
+        ensures { WalksRows (λ a k r b. F.post f.now a k r tt b) so_far.old self.now.rows so_far.new }
+    {
+        self.groups.walk(so_far, &|so_far, base, group| {
+            walk_rows(rows_at(group, base).as_slice(), so_far, f)
+        });
+    }
 }

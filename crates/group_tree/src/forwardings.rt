@@ -1,8 +1,27 @@
 //! The forwardings of a facility as a group.
-use crate::group::{Group, Row, keyed};
+ghost use Rattle.std.specs.Prelude.{◌≡◌, ◌≤◌, length};
+ghost use Rattle.mr_node.specs.Folds.{WalksRows};
+ghost use Rattle.group_tree.specs.Tables.{HoldsForwardings, forwardings_listed};
+
+use crate::group::{Group, Row, keyed, push_from, walk_rows};
+use crate::tree::GroupTree;
 use arrayvec::ArrayVec;
 use row_groups::Forwardings;
 use tatp_rows::{Forwarding, LAST_SUBSCRIBER, is_between};
+
+/// Returns the rows with their keys, in order, of a group that lies at a key. If it is no key of a group, it returns none.
+fn rows_at(group: &Forwardings, base: u64) -> ArrayVec<(u64, Forwarding), 4>
+    ensures rows { HoldsForwardings base group.now → result.items ≡ forwardings_listed base group.now }
+    ensures few { length result.items ≤ 4 }
+{
+    let s_id = base / 65_536;
+    let sf_type = (base / 256 % 256) as u8;
+    if s_id == 0 || s_id > u64::from(LAST_SUBSCRIBER) || !is_between(sf_type, 1, 4) {
+        return ArrayVec::new();
+    }
+    let rows = group.rows_from(s_id as u32, sf_type, 0);
+    keyed(rows.as_slice())
+}
 
 impl Row for Forwarding {
     ghost use Rattle.tatp_rows.specs.Keys.{forwarding_key};
@@ -45,14 +64,8 @@ impl Group<Forwarding> for Forwardings {
         )
     }
 
-    fn rows(&self, base: u64) -> ArrayVec<(u64, Forwarding), 4> {
-        let s_id = base / 65_536;
-        let sf_type = (base / 256 % 256) as u8;
-        if s_id == 0 || s_id > u64::from(LAST_SUBSCRIBER) || !is_between(sf_type, 1, 4) {
-            return ArrayVec::new();
-        }
-        let rows = self.rows_from(s_id as u32, sf_type, 0);
-        keyed(rows.as_slice())
+    fn push_from(&self, base: u64, key: u64, page: &mut ArrayVec<(u64, Forwarding), 132>) {
+        push_from(page, key, rows_at(self, base).as_slice());
     }
 
     fn insert(&mut self, row: &Forwarding) -> bool {
@@ -81,4 +94,16 @@ impl Group<Forwarding> for Forwardings {
     ghost positive = { facility_span_positive };
 
     ghost rules = { forwarding_group_rules };
+}
+
+impl GroupTree<Forwarding, Forwardings> {
+    /// Hands each row, in the order of keys, to a closure, together with what the closure writes to.
+    pub fn walk<A, F: Fn(&mut A, u64, &Forwarding)>(&self, so_far: &mut A, f: &F)
+        requires { F.IsAlwaysCallable f.now }
+        ensures { WalksRows (λ a k r b. F.post f.now a k r tt b) so_far.old self.now.rows so_far.new }
+    {
+        self.groups.walk(so_far, &|so_far, base, group| {
+            walk_rows(rows_at(group, base).as_slice(), so_far, f)
+        });
+    }
 }

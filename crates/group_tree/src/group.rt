@@ -1,6 +1,8 @@
 //! What a tree asks of its groups.
-ghost use Rattle.std.specs.Prelude.{◌≡◌, ◌∷◌, [], ◌<◌, ◌≤◌, ℕ, List, length, map};
+ghost use Rattle.std.specs.Prelude.{◌≡◌, ◌∷◌, [], ◌<◌, ◌≤◌, ◌+◌, ◌++◌, ℕ, List, length, map};
 ghost use Rattle.tatp_rows.specs.Ordered.{without_row};
+ghost use Rattle.tatp_rows.specs.Spans.{keys_from};
+ghost use Rattle.mr_node.specs.Folds.{WalksRows};
 ghost use Rattle.mr_node.specs.Rows.{key_limit, key_of_pair, value_at};
 ghost use Rattle.group_tree.specs.Groups.{IsGroupAt, IsPutAt, IsReplacedAt, base_of};
 
@@ -44,9 +46,10 @@ pub trait Group<R: Row>: Copy + Default {
         requires { Holds (base_of span key) self.now }
         ensures { result ≡ value_at key (listed (base_of span key) self.now) };
 
-    /// Returns the rows with their keys, in order, of a group that lies at this key.
-    fn rows(&self, base: u64) -> ArrayVec<(u64, R), 4>
-        ensures { Holds base self.now → result.items ≡ listed base self.now };
+    /// Appends the rows from a key on, of a group that lies at a key, to a page with room for four.
+    fn push_from(&self, base: u64, key: u64, page: &mut ArrayVec<(u64, R), 132>)
+        requires { length page.old.items ≤ 128 }
+        ensures { Holds base self.now → page.new.items ≡ page.old.items ++ keys_from key_of_pair key (listed base self.now) };
 
     /// Puts a row among the others. It returns false if there is one with its key, and then the group is as it was.
     fn insert(&mut self, row: &R) -> bool
@@ -83,4 +86,28 @@ pub(crate) fn keyed<R: Row>(rows: &[R]) -> ArrayVec<(u64, R), 4>
         pairs.push((rows[place].key(), rows[place]));
     }
     pairs
+}
+
+/// Hands rows, in order, to a closure, together with what the closure writes to.
+pub(crate) fn walk_rows<R, A, F: Fn(&mut A, u64, &R)>(rows: &[(u64, R)], so_far: &mut A, f: &F)
+    requires { F.IsAlwaysCallable f.now }
+    ensures { WalksRows (λ a k r b. F.post f.now a k r tt b) so_far.old rows.now so_far.new }
+{
+    for place in 0..rows.len() {
+        let pair = &rows[place];
+        f(so_far, pair.0, &pair.1);
+    }
+}
+
+/// Appends the rows whose keys are this one or higher to a page that has room for all rows.
+pub(crate) fn push_from<R: Row>(page: &mut ArrayVec<(u64, R), 132>, key: u64, rows: &[(u64, R)])
+    requires { length page.old.items + length rows.now ≤ 132 }
+    ensures { page.new.items ≡ page.old.items ++ keys_from key_of_pair key rows.now }
+{
+    for place in 0..rows.len() {
+        let pair = rows[place];
+        if key <= pair.0 {
+            page.push(pair);
+        }
+    }
 }

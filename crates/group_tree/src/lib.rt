@@ -5,6 +5,7 @@
 #![tactic(auto)]
 
 mod accesses;
+mod cuts;
 mod facilities;
 mod forwardings;
 mod group;

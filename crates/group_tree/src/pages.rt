@@ -1,13 +1,15 @@
-//! The rows of a tree of groups, page by page, by a walk, and of several keys at once.
-ghost use Rattle.std.specs.Prelude.{◌≡◌, ◌≤◌, [], length, map};
-ghost use Rattle.mr_node.specs.Folds.{WalksRows};
+//! The rows of a tree of groups, page by page, and at several keys at once.
+ghost use Rattle.std.specs.Prelude.{◌≡◌, ◌+◌, ◌*◌, ◌≤◌, ◌++◌, [], length, map, None, IfSome};
+ghost use Rattle.std.specs.List.{AllByRecursion};
+ghost use Rattle.tatp_rows.specs.Spans.{keys_from};
 ghost use Rattle.mr_node.specs.Pages.{IsPage};
-ghost use Rattle.mr_node.specs.Rows.{value_at};
-ghost use Rattle.group_tree.specs.Groups.{base_of};
+ghost use Rattle.mr_node.specs.Rows.{key_of_pair, value_at};
+ghost use Rattle.group_tree.specs.Groups.{AreGroups, base_of, rows_of};
 
 use crate::group::{Group, Row};
 use crate::tree::GroupTree;
 use arrayvec::ArrayVec;
+use mr_subtree::SubTree;
 
 /// Returns the keys of the groups to which keys belong.
 fn bases<R: Row, G: Group<R>>(keys: &[u64]) -> ArrayVec<u64, 16>
@@ -21,67 +23,87 @@ fn bases<R: Row, G: Group<R>>(keys: &[u64]) -> ArrayVec<u64, 16>
     bases
 }
 
-/// Hands rows, in order, to a closure, together with what the closure writes to.
-fn walk_rows<R, A, F: Fn(&mut A, u64, &R)>(rows: &[(u64, R)], so_far: &mut A, f: &F)
-    requires { F.IsAlwaysCallable f.now }
-    ensures { WalksRows (λ a k r b. F.post f.now a k r tt b) so_far.old rows.now so_far.new }
+/// Returns the row at a key of the key's group, or `None` if there is no group, or no row in it.
+fn find_in<R: Row, G: Group<R>>(group: &Option<G>, key: u64) -> Option<R>
+    requires { IfSome group.now (λ group. G.Holds (base_of G.span key) group) }
+    ensures none { group.now ≡ None → result ≡ None }
+    ensures some { IfSome group.now (λ group. result ≡ value_at key (G.listed (base_of G.span key) group)) }
 {
-    for place in 0..rows.len() {
-        let pair = &rows[place];
-        f(so_far, pair.0, &pair.1);
+    match group {
+        Some(group) => group.find(key),
+        None => None,
     }
 }
 
-/// Appends rows whose keys are this one or higher.
-fn push_from<R: Row>(page: &mut ArrayVec<(u64, R), 128>, key: u64, rows: &[(u64, R)]) {
-    for place in 0..rows.len() {
-        if key <= rows[place].0 {
-            page.push(rows[place]);
-        }
+/// Appends the rows of groups to a page that has room for four of each.
+fn push_groups<R: Row, G: Group<R>>(page: &mut ArrayVec<(u64, R), 132>, groups: &[(u64, G)])
+    requires room { length page.old.items + 4 * length groups.now ≤ 132 }
+    requires groups { AllByRecursion (λ p. G.Holds p.0 p.1) groups.now }
+    ensures { page.new.items ≡ page.old.items ++ rows_of G.listed groups.now }
+{
+    for place in 0..groups.len() {
+        let pair = &groups[place];
+        pair.1.push_from(pair.0, 0, page);
     }
+}
+
+/// Puts the rows of a key's group, from the key on, into an empty page. It returns the key from which the groups behind
+/// that one are.
+fn start_page<R: Row, G: Group<R>>(
+    groups: &SubTree<G>,
+    key: u64,
+    page: &mut ArrayVec<(u64, R), 132>,
+) -> u64
+    requires groups { AreGroups G.listed G.Holds groups.now.rows }
+    requires empty { page.old.items ≡ [] }
+    ensures few { length page.new.items ≤ 4 }
+    ensures front { keys_from key_of_pair key (rows_of G.listed groups.now.rows) ≡ page.new.items ++ rows_of G.listed (keys_from key_of_pair result groups.now.rows) }
+{
+    let base = G::base(key);
+    let Some(group) = groups.get(base) else {
+        return key;
+    };
+    group.push_from(base, key, page);
+    key + 1
 }
 
 impl<R: Row, G: Group<R>> GroupTree<R, G> {
-    /// Hands each row, in the order of keys, to a closure, together with what the closure writes to.
-    pub fn walk<A, F: Fn(&mut A, u64, &R)>(&self, so_far: &mut A, f: &F)
-        requires { F.IsAlwaysCallable f.now }
-        ensures { WalksRows (λ a k r b. F.post f.now a k r tt b) so_far.old self.now.rows so_far.new }
-    {
-        self.groups.walk(so_far, &|so_far, base, group| {
-            walk_rows(group.rows(base).as_slice(), so_far, f)
-        });
-    }
-
-    /// Puts the next rows, from a key on, into an empty page, those of as many groups as one leaf has. It puts at least
-    /// one if there is one.
-    pub fn page_from(&self, key: u64, page: &mut ArrayVec<(u64, R), 128>)
-        requires { page.old.items ≡ [] }
+    /// Puts the next rows, from a key on, into an empty page: those of the key's group, and those of as many groups
+    /// behind it as one leaf has. It puts at least one if there is one. The groups are found in an empty list of the
+    /// caller's.
+    pub fn page_from(
+        &self,
+        key: u64,
+        groups: &mut ArrayVec<(u64, G), 32>,
+        page: &mut ArrayVec<(u64, R), 132>,
+    )
+        requires groups { groups.old.items ≡ [] }
+        requires page { page.old.items ≡ [] }
         ensures { IsPage key self.now.rows page.new.items }
     {
-        let mut found = ArrayVec::new();
-        self.groups.page_from(G::base(key), &mut found);
-        let groups = found.as_slice();
-        for place in 0..groups.len() {
-            let (base, group) = groups[place];
-            push_from(page, key, group.rows(base).as_slice());
-        }
+        let from = start_page(&self.groups, key, page);
+        self.groups.page_from(from, groups);
+        push_groups(page, groups.as_slice());
     }
 
     /// Puts the rows at up to 16 keys into an empty list, one for each key in the order of the keys, with `None` for a
-    /// key that isn't there. The keys are looked up with overlapping memory accesses.
-    pub fn copy_many(&self, keys: &[u64], found: &mut ArrayVec<Option<R>, 16>)
+    /// key that isn't there. The keys are looked up with overlapping memory accesses. The groups are found in an empty
+    /// list of the caller's.
+    pub fn copy_many(
+        &self,
+        keys: &[u64],
+        groups: &mut ArrayVec<Option<G>, 16>,
+        found: &mut ArrayVec<Option<R>, 16>,
+    )
         requires few { length keys.now ≤ 16 }
+        requires groups { groups.old.items ≡ [] }
         requires empty { found.old.items ≡ [] }
         ensures { found.new.items ≡ map (λ key. value_at key self.now.rows) keys.now }
     {
-        let bases = bases::<R, G>(keys);
-        let mut groups = ArrayVec::new();
-        self.groups.copy_many(bases.as_slice(), &mut groups);
+        self.groups
+            .copy_many(bases::<R, G>(keys).as_slice(), groups);
         for place in 0..keys.len() {
-            found.push(match &groups.as_slice()[place] {
-                Some(group) => group.find(keys[place]),
-                None => None,
-            });
+            found.push(find_in(&groups.as_slice()[place], keys[place]));
         }
     }
 }

@@ -1,6 +1,0 @@
-use Rattle.group_tree.proofs.Common.{◌∙◌, ap, map, refl}
-use Rattle.group_tree.proofs.FacilityLemmas.{facility_rows}
-use Rattle.group_tree.proofs.facilities.FacilitiesGroupFacility.rows.Goals as goal
-
-pub returns : goal.returns
-returns c = λ holds. c.keyed.ensures ∙ ap (map _) (c.as_slice.ensures.value ∙ c.rows_from-rows.ensures) ∙ facility_rows c.args.base c.args.self.now holds.at
