@@ -9,3 +9,4 @@ pub mod FacilityLemmas
 pub mod HourLemmas
 pub mod ForwardingLemmas
 pub mod PageLemmas
+pub mod CutLemmas

@@ -102,8 +102,9 @@ impl GroupTree<Forwarding, Forwardings> {
         requires { F.IsAlwaysCallable f.now }
         ensures { WalksRows (λ a k r b. F.post f.now a k r tt b) so_far.old self.now.rows so_far.new }
     {
-        self.groups.walk(so_far, &|so_far, base, group| {
-            walk_rows(rows_at(group, base).as_slice(), so_far, f)
-        });
+        let walk_group = |so_far: &mut A, base: u64, group: &Forwardings|
+            requires { F.IsAlwaysCallable f.now }
+        { walk_rows(rows_at(group, base).as_slice(), so_far, f) };
+        self.groups.walk(so_far, &walk_group);
     }
 }
