@@ -100,6 +100,7 @@ impl GroupTree<Access, Accesses> {
     {
         let walk_group = |so_far: &mut A, base: u64, group: &Accesses|
             requires { F.IsAlwaysCallable f.now }
+            ensures { HoldsAccesses base group.now → WalksRows (λ a k r b. F.post f.entry.now a k r tt b) so_far.old (accesses_listed base group.now) so_far.new }
         { walk_rows(rows_at(group, base).as_slice(), so_far, f) };
         self.groups.walk(so_far, &walk_group);
     }
