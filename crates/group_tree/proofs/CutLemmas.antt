@@ -4,6 +4,18 @@ use Rattle.group_tree.proofs.BaseLemmas.{base_step}
 use Rattle.group_tree.proofs.GroupsLemmas.{HaveLaws, IsFilled, rows_of-append}
 use Rattle.group_tree.proofs.PageLemmas.{each-filter, ordered-filter}
 
+-- rows that a key cuts lie apart at it
+cut_low : {X : Type 0} (key : ℕ) (rows : List (ℕ × X)) → KeysBelow key (keys_below key_of_pair key rows)
+cut_low key [] = tt
+cut_low key (p ∷ rows) = by_test (nat_lt p.0 key) (λ t. rw t (grind (arith, nat_tests), cut_low key rows)) (λ t. rw t (cut_low key rows))
+
+cut_high : {X : Type 0} (key : ℕ) (rows : List (ℕ × X)) → KeysFrom key (keys_from key_of_pair key rows)
+cut_high key [] = tt
+cut_high key (p ∷ rows) = by_test (nat_le key p.0) (λ t. rw t (grind (arith, nat_tests), cut_high key rows)) (λ t. rw t (cut_high key rows))
+
+pub cut_apart : {X : Type 0} (span key : ℕ) (rows : List (ℕ × X)) → IsBase span key → AreGroupsApart span (keys_below key_of_pair key rows) (keys_from key_of_pair key rows)
+cut_apart span key rows at = (key, at, cut_low key rows, cut_high key rows)
+
 module _ {G R : Type 0} {listed : ℕ → G → List (ℕ × R)} {Holds : ℕ → G → Type 0} {span : ℕ} (laws : HaveLaws listed Holds span) where
   -- one group lies on one side of a key
   below_whole : (key : ℕ) (rows rest : List (ℕ × R)) → KeysBelow key rows → keys_below key_of_pair key (rows ++ rest) ≡ rows ++ keys_below key_of_pair key rest

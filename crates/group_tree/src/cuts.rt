@@ -19,6 +19,7 @@ impl<R: Row, G: Group<R>> GroupTree<R, G> {
         requires stock { blanks_for_slice self.old.height ≤ stock.old }
         ensures low { self.new.rows ≡ rows_below key self.old.rows }
         ensures high { high.new.rows ≡ rows_from key self.old.rows }
+        ensures apart { AreGroupsApart G.span self.new.rows high.new.rows }
         ensures heights { (self.new.height ≤ self.old.height) × (high.new.height ≤ self.old.height) }
         ensures path { result.1 ≤ 3 * (self.old.height + 1) }
         ensures path_no_fewer { self.old.height + 3 ≤ result.1 }

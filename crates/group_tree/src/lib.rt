@@ -10,6 +10,8 @@ mod facilities;
 mod forwardings;
 mod group;
 mod pages;
+#[cfg(test)]
+mod tests;
 mod tree;
 
 pub use group::{Group, Row};

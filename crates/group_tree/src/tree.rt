@@ -1,11 +1,13 @@
 //! The tree of groups.
-ghost use Rattle.std.specs.Prelude.{◌≡◌, ◌<◌, ◌≤◌, [], length, option_map, ok_or, Err, IfErr, IfOk, OnErr};
+ghost use Rattle.std.specs.Prelude.{◌≡◌, ◌<◌, ◌≤◌, [], length, is_some, ok_or, IfErr, IfOk, IfSome, OnErr};
 ghost use Rattle.tatp_rows.specs.Ordered.{with_row_at, without_row};
 ghost use Rattle.mr_node.specs.Rows.{key_limit, key_of_pair, value_at};
+ghost use Rattle.mr_node.specs.Revisions.{revised_at, spent_at};
 ghost use Rattle.mr_subtree.specs.Trees.{IsInserted};
 ghost use Rattle.group_tree.specs.Groups.{IsHeightOfGroups, rows_beside};
 
 use crate::group::{Group, Row};
+use mr_node::Revise;
 use mr_subtree::SubTree;
 use std::alloc::Global;
 use std::marker::{Model, PhantomData};
@@ -88,6 +90,22 @@ impl<R: Row, G: Group<R>> GroupTree<R, G> {
             }
             None => Err(row),
         }
+    }
+
+    /// Changes the row at a key, which keeps its key. It returns false if there is none, and then nothing has changed. It
+    /// takes no memory.
+    pub fn revise<E: Revise<R>>(&mut self, key: u64, revision: &mut E) -> bool
+        requires { IfSome (value_at key self.old.rows) (λ row. R.row_key (E.revised revision.old row) ≡ key) }
+        ensures rows { self.new ≡ record self.old { rows = revised_at key (E.revised revision.old) self.old.rows } }
+        ensures spent { revision.new ≡ spent_at key E.spent revision.old self.old.rows }
+        ensures found { result ≡ is_some (value_at key self.old.rows) }
+    {
+        let Some(mut row) = self.get(key) else {
+            return false;
+        };
+        revision.revise(&mut row);
+        let _ = self.replace(row);
+        true
     }
 
     /// Removes the row at a key, and returns it. A group whose last row goes is removed from the tree. It takes no
