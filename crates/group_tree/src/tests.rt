@@ -154,3 +154,87 @@ fn drawn_changes(rt: HostRuntime) {
     assert_eq!(rt; (wrong, walk, wrong_pages(&tree, &marks)), (0, plain_walk(&marks, 0), 0));
     drop(tree);
 }
+
+/// The forwardings of so many subscribers, each with those of a drawn pattern, put in by a drawn order; where memory was
+/// refused, at the second try.
+fn forwardings(
+    rt: &impl Abort,
+    mut tree: GroupTree<Forwarding, Forwardings>,
+    count: u64,
+) -> GroupTree<Forwarding, Forwardings> {
+    for turn in 0..count.wrapping_mul(6) {
+        let draw = mixed(turn);
+        let s_id = draw % count.max(1) + 1;
+        let number = Number::try_new(draw % 1_000_000).expect(rt, "a number");
+        let row = Forwarding::try_new(
+            s_id,
+            (draw >> 20) % 4 + 1,
+            (draw >> 40) % 3 * 8,
+            1 + (draw >> 50) % 24,
+            number,
+        );
+        let row = row.expect(rt, "a row");
+        if let Err(back) = tree.insert(row)
+            && back.why == Refusal::Memory
+        {
+            assert!(rt; tree.insert(row).is_ok());
+        }
+    }
+    tree
+}
+
+/// The blank nodes for a slice; where memory was refused, at the second try.
+fn slice_stock(
+    rt: &impl Abort,
+    alloc: Global,
+    tree: &GroupTree<Forwarding, Forwardings>,
+) -> Stock<Forwardings>
+    ensures { result ≡ blanks_for_slice tree.now.height }
+{
+    match stock_for_slice(alloc, tree.height()) {
+        Ok(stock) => stock,
+        Err(_) => stock_for_slice(alloc, tree.height()).expect(rt, "memory"),
+    }
+}
+
+/// The blank nodes for a meld; where memory was refused, at the second try.
+fn meld_stock(
+    rt: &impl Abort,
+    alloc: Global,
+    low: &GroupTree<Forwarding, Forwardings>,
+    high: &GroupTree<Forwarding, Forwardings>,
+) -> Stock<Forwardings>
+    ensures { result ≡ blanks_for_meld low.now.height high.now.height }
+{
+    match stock_for_meld(alloc, low.height(), high.height()) {
+        Ok(stock) => stock,
+        Err(_) => stock_for_meld(alloc, low.height(), high.height()).expect(rt, "memory"),
+    }
+}
+
+/// A walk that goes on over a tree.
+fn walked(tree: &GroupTree<Forwarding, Forwardings>, walk: Walk) -> Walk {
+    let mut walk = walk;
+    tree.walk(&mut walk, &|walk, key, row| {
+        step(walk, key, row.end_time())
+    });
+    walk
+}
+
+#[test]
+fn cut_and_joined(rt: HostRuntime) {
+    let alloc = rt.alloc();
+    let empty = GroupTree::new(alloc).expect(&rt, "memory");
+    let mut low = forwardings(&rt, empty, 400);
+    let mut high = GroupTree::new(alloc).expect(&rt, "memory");
+    let whole = walked(&low, START);
+    let mut stock = slice_stock(&rt, alloc, &low);
+    let (steps, path) = low.slice_into(&mut high, subscriber_key(150), &mut stock);
+    let (below, all) = (walked(&low, START), walked(&high, walked(&low, START)));
+    assert_eq!(rt; (all, below.last < subscriber_key(150), path <= steps), (whole, true, true));
+    let mut stock = meld_stock(&rt, alloc, &low, &high);
+    let _ = low.meld_from(&mut high, &mut stock);
+    assert_eq!(rt; (walked(&low, START), walked(&high, START)), (whole, START));
+    drop(low);
+    drop(high);
+}
