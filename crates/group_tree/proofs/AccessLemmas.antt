@@ -1,5 +1,5 @@
 -- Groups of Access_Info rows at their keys.
-use Rattle.group_tree.proofs.Common.{◌≡◌, ◌≢◌, ◌∙◌, refl, sym, ap, subst, true, ℕ, ◌+◌, ◌*◌, ◌/◌, ◌%◌, ◌<◌, ◌≤◌, nat_le, nat_tests, List, [], ◌∷◌, map, keys_from, key_of, IsBase, Option, None, option_map, arith, row_at, with_row, with_row_at, without_row, each-with_row, each-with_row_at, each-without_row, ordered-with_row, ordered-with_row_at, ordered-without_row, without_row_absent, key_of_pair, value_at, base_of, IsPut, IsPutAt, IsReplacedAt, Result, Ok, Err, Refusal, is_ok, AccessInfoRow, access_key, access_in_range, AreAccesses, access_type, access_with, HoldsAccesses, accesses_listed, s_id_in, subscriber_span}
+use Rattle.group_tree.proofs.Common.{◌≡◌, ◌≢◌, ◌∙◌, refl, sym, ap, subst, true, ℕ, ◌+◌, ◌*◌, ◌/◌, ◌%◌, ◌<◌, ◌≤◌, nat_le, nat_tests, List, [], ◌∷◌, map, keys_from, key_of, IsBase, Option, None, option_map, arith, row_at, with_row_at, without_row, each-with_row, each-with_row_at, each-without_row, ordered-with_row, ordered-with_row_at, ordered-without_row, without_row_absent, key_of_pair, value_at, base_of, IsPut, IsPutAt, IsReplacedAt, Result, Ok, Err, Refusal, is_ok, AccessInfoRow, access_key, access_in_range, access_type, access_with, HoldsAccesses, accesses_listed, s_id_in, subscriber_span}
 use Rattle.group_tree.proofs.PlacedLemmas.{no_place, put-listed, value_at-listed, with_row_at-listed, without_row-listed}
 use Rattle.group_tree.proofs.TypeLemmas.{no_type, rising, s_id_of_base, typed_key}
 use Rattle.tatp_rows.proofs.RowLemmas as ranges

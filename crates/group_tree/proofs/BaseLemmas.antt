@@ -1,5 +1,5 @@
 -- The keys at which groups begin: multiples of a span.
-use Rattle.group_tree.proofs.Common.{◌≡◌, ◌∙◌, sym, ap, ℕ, ◌+◌, ◌*◌, ◌/◌, ◌<◌, ◌≤◌, nat_lt, arith, nat_tests, by_test, div-mul-le_self, lt-div-mul-add, mul-div_cancel, mul-le-mul_right, IsBase, base_of}
+use Rattle.group_tree.proofs.Common.{◌≡◌, ap, ℕ, ◌+◌, ◌*◌, ◌/◌, ◌<◌, ◌≤◌, nat_lt, arith, nat_tests, by_test, div-mul-le_self, lt-div-mul-add, mul-div_cancel, mul-le-mul_right, IsBase, base_of}
 
 module _ (span : ℕ) (positive : 0 < span) where
   -- a key lies in the span of its group

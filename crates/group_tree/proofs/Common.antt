@@ -1,5 +1,5 @@
 -- The names of crates below and of this crate's specs that proofs cite, passed on from one place. Declares nothing.
-pub use Rattle.std.proofs.Common.{◌≡◌, ◌≢◌, ◌∙◌, refl, sym, ap, subst,  ℕ, zero, suc, ◌+◌, ◌-◌, ◌*◌, ◌/◌, ◌%◌, ◌^◌, ◌<◌, ◌≤◌, ◌==◌, nat_lt, nat_le, Bool, true, false, List, [], ◌∷◌, ◌++◌, length, map, take, drop, get_or, Option, Some, None, option_map, IsSome, is_some, ok_or, Result, Ok, Err, IfOk, IfErr, IfSome, OnErr, arith, rules, if◌then◌else◌, append_assoc, append-nil, length-append, ◌⊎◌, inl, inr}
+pub use Rattle.std.proofs.Common.{◌≡◌, ◌≢◌, ◌∙◌, refl, sym, ap, subst, ℕ, zero, suc, ◌+◌, ◌-◌, ◌*◌, ◌/◌, ◌%◌, ◌^◌, ◌<◌, ◌≤◌, ◌==◌, nat_lt, nat_le, Bool, true, false, List, [], ◌∷◌, ◌++◌, length, map, take, drop, get_or, Option, Some, None, option_map, IsSome, is_some, ok_or, Result, Ok, Err, IfOk, IfErr, IfSome, OnErr, arith, rules, if◌then◌else◌, append_assoc, append-nil, length-append, ◌⊎◌, inl, inr}
 pub use Rattle.std.specs.List.{AllByRecursion, filter}
 pub use Rattle.std.proofs.Math.Nat.{div-mul-le_self, lt-div-mul-add, mul-div_cancel, mul-le-mul_right}
 pub use Rattle.std.proofs.lemmas.Bool.Decides.{nat_tests}

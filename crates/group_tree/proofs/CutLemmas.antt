@@ -1,5 +1,5 @@
 -- Trees of groups that are cut at a key of a group, or joined.
-use Rattle.group_tree.proofs.Common.{◌≡◌, ◌∙◌, refl, sym, ap, subst, ℕ, ◌+◌, ◌<◌, ◌≤◌, nat_le, nat_lt, true, false, List, [], ◌∷◌, ◌++◌, length, arith, AllByRecursion, nat_tests, filter-append, filter_all, filter_none, each-weaker, each-append, each-left, each-right, by_test, keys_below, keys_from, ordered-append, key_of_pair, below-weaker, from-weaker, KeysBelow, KeysFrom, AreGroups, AreGroupsApart, AreApart, IsBase, Grouped, rows_of}
+use Rattle.group_tree.proofs.Common.{◌≡◌, ◌∙◌, refl, sym, ap, subst, ℕ, ◌+◌, ◌<◌, ◌≤◌, nat_le, nat_lt, List, [], ◌∷◌, ◌++◌, length, arith, AllByRecursion, nat_tests, filter-append, filter_all, filter_none, each-weaker, each-append, each-left, each-right, by_test, keys_below, keys_from, ordered-append, key_of_pair, below-weaker, from-weaker, KeysBelow, KeysFrom, AreGroups, AreGroupsApart, AreApart, IsBase, Grouped, rows_of}
 use Rattle.group_tree.proofs.BaseLemmas.{base_step}
 use Rattle.group_tree.proofs.GroupsLemmas.{HaveLaws, IsFilled, rows_of-append}
 use Rattle.group_tree.proofs.PageLemmas.{each-filter, ordered-filter}
@@ -94,15 +94,17 @@ module _ {G R : Type 0} {listed : ℕ → G → List (ℕ × R)} {Holds : ℕ �
 
   bases_below : (key : ℕ) (groups : List (ℕ × G)) → AllByRecursion (IsFilled listed Holds span laws) groups → KeysBelow key (rows_of listed groups) → KeysBelow key groups
   bases_below key [] each below = tt
-  bases_below key (p ∷ groups) each below =
-      (base_below key p each.0 (each-left (λ q. key_of_pair q < key) (listed p.0 p.1) (rows_of listed groups) below),
-      bases_below key groups each.1 (each-right (λ q. key_of_pair q < key) (listed p.0 p.1) (rows_of listed groups) below))
+  bases_below key (p ∷ groups) each below = (
+    base_below key p each.0 (each-left (λ q. key_of_pair q < key) (listed p.0 p.1) (rows_of listed groups) below),
+    bases_below key groups each.1 (each-right (λ q. key_of_pair q < key) (listed p.0 p.1) (rows_of listed groups) below),
+  )
 
   bases_from : (key : ℕ) (groups : List (ℕ × G)) → IsBase span key → AllByRecursion (IsFilled listed Holds span laws) groups → KeysFrom key (rows_of listed groups) → KeysFrom key groups
   bases_from key [] at each from = tt
-  bases_from key (p ∷ groups) at each from =
-      (base_from key p at each.0 (each-left (λ q. key ≤ key_of_pair q) (listed p.0 p.1) (rows_of listed groups) from),
-      bases_from key groups at each.1 (each-right (λ q. key ≤ key_of_pair q) (listed p.0 p.1) (rows_of listed groups) from))
+  bases_from key (p ∷ groups) at each from = (
+    base_from key p at each.0 (each-left (λ q. key ≤ key_of_pair q) (listed p.0 p.1) (rows_of listed groups) from),
+    bases_from key groups at each.1 (each-right (λ q. key ≤ key_of_pair q) (listed p.0 p.1) (rows_of listed groups) from),
+  )
 
   -- groups that lie apart, where their rows do
   pub groups_apart : (low high : List (ℕ × G)) → AreGroups listed Holds low → AreGroups listed Holds high → AreGroupsApart span (rows_of listed low) (rows_of listed high) → AreApart low high

@@ -1,5 +1,5 @@
 -- Groups of Call_Forwarding rows at their keys.
-use Rattle.group_tree.proofs.Common.{◌≡◌, ◌≢◌, ◌∙◌, refl, sym, ap, subst, true, ◌⊎◌, inl, inr, IsTrue, is_start_time, type_in, ℕ, ◌+◌, ◌*◌, ◌/◌, ◌%◌, ◌<◌, ◌≤◌, nat_le, nat_tests, List, [], ◌∷◌, map, keys_from, key_of, IsBase, Option, None, option_map, arith, row_at, with_row, with_row_at, without_row, each-with_row, each-with_row_at, each-without_row, ordered-with_row, ordered-with_row_at, ordered-without_row, without_row_absent, key_of_pair, value_at, base_of, IsPut, IsPutAt, IsReplacedAt, Result, Ok, Err, Refusal, is_ok, CallForwardingRow, forwarding_key, forwarding_in_range, AreForwardings, forwarding_start, forwarding_with, HoldsForwardings, forwardings_listed, s_id_in, facility_span}
+use Rattle.group_tree.proofs.Common.{◌≡◌, ◌∙◌, refl, sym, ap, subst, true, ◌⊎◌, inl, inr, IsTrue, is_start_time, type_in, ℕ, ◌+◌, ◌/◌, ◌%◌, ◌<◌, nat_le, nat_tests, List, [], ◌∷◌, map, keys_from, key_of, IsBase, Option, option_map, arith, row_at, with_row_at, without_row, each-with_row, each-with_row_at, each-without_row, ordered-with_row, ordered-with_row_at, ordered-without_row, key_of_pair, value_at, base_of, IsPut, IsPutAt, IsReplacedAt, Result, Ok, Err, Refusal, is_ok, CallForwardingRow, forwarding_key, forwarding_in_range, forwarding_start, forwarding_with, HoldsForwardings, forwardings_listed, s_id_in, facility_span}
 use Rattle.group_tree.proofs.PlacedLemmas.{put-listed, value_at-listed, with_row_at-listed, without_row-listed}
 use Rattle.group_tree.proofs.HourLemmas.{rising, s_id_of_base, started_key, type_of_base}
 use Rattle.tatp_rows.proofs.RowLemmas as ranges

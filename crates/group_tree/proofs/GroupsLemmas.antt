@@ -1,5 +1,5 @@
 -- What an edit of one group does to the rows of all groups.
-use Rattle.group_tree.proofs.Common.{◌≡◌, ◌≢◌, ◌∙◌, refl, sym, ap, subst, ℕ, ◌+◌, ◌<◌, ◌≤◌, ◌==◌, nat_lt, true, false, List, [], ◌∷◌, ◌++◌, length, Option, Some, None, arith, append_assoc, AllByRecursion, nat_tests, IsOrderedBy, row_at, with_row, with_row_at, without_row, each-append, ordered-append, absent_below, by_test, each-weaker, each-with_row, each-with_row_at, each-without_row, ordered-with_row, ordered-with_row_at, ordered-without_row, below-weaker, from-weaker, row_at-absent, row_at-part, row_at-skip, with_row-front, with_row-part, with_row-skip, with_row_at-here, with_row_at-part, without_row-here, without_row-part, KeysBelow, KeysFrom, key_of_pair, value_at, AreGroups, IsBase, IsGroupAt, base_of, rows_of}
+use Rattle.group_tree.proofs.Common.{◌≡◌, ◌∙◌, refl, sym, ap, subst, ℕ, ◌+◌, ◌<◌, ◌≤◌, ◌==◌, nat_lt, List, [], ◌∷◌, ◌++◌, length, Option, Some, None, arith, append_assoc, AllByRecursion, nat_tests, IsOrderedBy, row_at, with_row, with_row_at, without_row, each-append, absent_below, by_test, each-weaker, below-weaker, from-weaker, row_at-part, with_row-part, with_row_at-part, without_row-part, KeysBelow, KeysFrom, key_of_pair, value_at, IsBase, IsGroupAt, base_of, rows_of}
 use Rattle.group_tree.proofs.BaseLemmas.{base_base, base_high, base_low, base_step}
 
 -- the laws of groups: they lie a span apart, and keep the rules of a group

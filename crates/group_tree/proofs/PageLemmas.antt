@@ -1,7 +1,7 @@
 -- The rows of groups one after another, from a key on.
-use Rattle.group_tree.proofs.Common.{◌≡◌, ◌∙◌, refl, sym, ap, subst, ℕ, zero, suc, IfSome, ◌+◌, ◌-◌, ◌*◌, ◌<◌, ◌≤◌, nat_lt, nat_le, true, false, Bool, List, [], ◌∷◌, ◌++◌, length, map, take, get_or, take_all, take_more, Option, Some, None, option_map, arith, append_assoc, append-nil, length-append, length-take, AllByRecursion, filter, nat_tests, filter-append, filter_all, filter_none, each-weaker, each-left, each-append, by_test, keys_from, IsOrderedBy, key_of_pair, value_at, below-weaker, from-weaker, key_limit, KeysBelow, KeysFrom, AreGroups, IsBase, base_of, rows_of, IsPage, FoldsRows, folds_append, Bor}
+use Rattle.group_tree.proofs.Common.{◌≡◌, ◌∙◌, refl, sym, ap, subst, ℕ, zero, suc, IfSome, ◌+◌, ◌*◌, ◌<◌, ◌≤◌, nat_le, true, false, Bool, List, [], ◌∷◌, ◌++◌, length, map, take, get_or, take_all, take_more, Option, Some, None, arith, append_assoc, append-nil, length-append, length-take, AllByRecursion, filter, nat_tests, filter-append, each-weaker, each-left, by_test, keys_from, IsOrderedBy, key_of_pair, value_at, below-weaker, from-weaker, key_limit, AreGroups, base_of, rows_of, IsPage, FoldsRows, folds_append, Bor}
 use Rattle.group_tree.proofs.BaseLemmas.{base_base, base_high, base_low}
-use Rattle.group_tree.proofs.GroupsLemmas.{Around, HaveLaws, IsFilled, around, group_at, rows_below, rows_from, rows_of-append}
+use Rattle.group_tree.proofs.GroupsLemmas.{Around, HaveLaws, IsFilled, rows_below, rows_from, rows_of-append}
 use Rattle.group_tree.proofs.TreeLemmas.{all_kept, beside, front_gone, its_rules, its_value, none_there}
 
 -- the keys from 0 on are all
@@ -115,10 +115,10 @@ module _ {G R : Type 0} {listed : ℕ → G → List (ℕ × R)} {Holds : ℕ �
       let behind = rows_from listed Holds span laws (base + span) a.back a.back_each a.behind in
       let far : key ≤ base + span = omega (arith, base_high span laws.positive key) in
       let others : keys_from key_of_pair from groups ≡ a.back =
-          ap (keys_from key_of_pair from) a.list
-          ∙ front_gone from a.front (here ++ a.back) (below-weaker key_of_pair base from a.front low a.below)
-          ∙ filter-append _ here a.back ∙ ap (λ l. l ++ keys_from key_of_pair from a.back) none
-          ∙ all_kept from a.back (from-weaker key_of_pair from (base + span) a.back high a.behind) in
+      ap (keys_from key_of_pair from) a.list
+      ∙ front_gone from a.front (here ++ a.back) (below-weaker key_of_pair base from a.front low a.below)
+      ∙ filter-append _ here a.back ∙ ap (λ l. l ++ keys_from key_of_pair from a.back) none
+      ∙ all_kept from a.back (from-weaker key_of_pair from (base + span) a.back high a.behind) in
       ap (λ gs. keys_from key_of_pair key (rows_of listed gs)) a.list
       ∙ ap (keys_from key_of_pair key) (rows_of-append listed Holds span laws a.front (here ++ a.back) ∙ ap (λ l. front ++ l) (rows_of-append listed Holds span laws here a.back))
       ∙ front_gone key front (own ++ back) (below-weaker key_of_pair base key front (base_low span laws.positive key) (rows_below listed Holds span laws base a.front (base_base span laws.positive key) a.front_each a.below))
@@ -139,7 +139,7 @@ module _ {G R : Type 0} {listed : ℕ → G → List (ℕ × R)} {Holds : ℕ �
       started_some page items new none its step =
           let past : nat_le (key + 1) (base_of span key) ≡ false = let low = base_low span laws.positive key in grind (arith, nat_tests) in
           let own : new ≡ keys_from key_of_pair key (listed (base_of span key) group) =
-              step ∙ ap (λ l. l ++ keys_from key_of_pair key items) none ∙ ap (keys_from key_of_pair key) (its ∙ ap (λ (b : ℕ). listed b group) at) in
+          step ∙ ap (λ l. l ++ keys_from key_of_pair key items) none ∙ ap (keys_from key_of_pair key) (its ∙ ap (λ (b : ℕ). listed b group) at) in
           parts_from key (key + 1) groups ((base_of span key, group) ∷ []) (beside laws are key at (Some group) found) (omega (arith, base_low span laws.positive key)) (omega (arith, base_high span laws.positive key)) (rw past refl)
           ∙ ap (λ l. keys_from key_of_pair key l ++ rows_of listed (keys_from key_of_pair (key + 1) groups)) (append-nil (listed (base_of span key) group))
           ∙ ap (λ l. l ++ rows_of listed (keys_from key_of_pair (key + 1) groups)) (sym own)
@@ -185,9 +185,11 @@ module _ {G R : Type 0} {listed : ℕ → G → List (ℕ × R)} {Holds : ℕ �
       no_back : (a b : List (ℕ × R)) → a ++ b ≡ [] → b ≡ []
       no_back [] b e = e
       no_back (x ∷ a) b e = let wrong : ⊥ = cc in absurd wrong
+
       no_groups : (gs : List (ℕ × G)) → AllByRecursion (IsFilled listed Holds span laws) gs → rows_of listed gs ≡ [] → gs ≡ []
       no_groups [] each e = refl
       no_groups (p ∷ gs) each e = absurd (let size = ap length e in omega (arith, size, each.0.1, length-append (listed p.0 p.1) (rows_of listed gs)))
+
       filled : AllByRecursion (IsFilled listed Holds span laws) gpage
       filled = each-left (IsFilled listed Holds span laws) gpage is.rest (subst (AllByRecursion (IsFilled listed Holds span laws)) is.front (each-filter (IsFilled listed Holds span laws) _ groups are.each))
 

@@ -1,5 +1,5 @@
 -- A group's rows with their keys, where keys rise with the rows' places.
-use Rattle.group_tree.proofs.Common.{◌≡◌, ◌≢◌, ◌∙◌, refl, sym, ap, ℕ, ◌<◌, ◌==◌, nat_lt, true, false, Bool, List, [], ◌∷◌, length, map, Option, Some, None, option_map, IsSome, is_some, arith, nat_tests, by_test, row_at, with_row, with_row_at, without_row, key_of_pair, value_at, IsPutAt, IsReplacedAt, Result, Ok, Err, Refusal, Exists, is_ok, listed_by, IsPut}
+use Rattle.group_tree.proofs.Common.{◌≡◌, ◌≢◌, ◌∙◌, refl, sym, ap, ℕ, ◌<◌, ◌==◌, nat_lt, true, false, List, [], ◌∷◌, Option, Some, None, option_map, IsSome, arith, nat_tests, by_test, row_at, with_row, with_row_at, without_row, key_of_pair, value_at, IsPutAt, Result, Ok, Err, Refusal, is_ok, listed_by, IsPut}
 
 module _ {R : Type 0} (key_at : ℕ → ℕ) (rising : (low high : ℕ) → low < high → key_at low < key_at high) (place : R → ℕ) (with : R → R) where
   -- keys are alike where places are, and lie as they do

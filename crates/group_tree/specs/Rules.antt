@@ -1,7 +1,7 @@
 -- The rules of the groups of the three tables.
-use Rattle.std.specs.Prelude.{◌≡◌, ◌≢◌, refl, ℕ, ◌+◌, ◌*◌, ◌/◌, ◌<◌, ◌≤◌, ◌==◌, Bool, true, false, List, [], ◌∷◌, length, map, IsTrue}
+use Rattle.std.specs.Prelude.{◌≡◌, ℕ, ◌+◌, ◌*◌, ◌/◌, ◌<◌, ◌≤◌, ◌==◌, true, List, [], ◌∷◌, length, IsTrue}
 use Rattle.std.specs.List.{AllByRecursion}
-use Rattle.std.proofs.Common.{arith, ap}
+use Rattle.std.proofs.Common.{arith}
 use Rattle.std.proofs.lemmas.Bool.Decides.{nat_tests}
 use Rattle.std.proofs.lemmas.List.{length-map}
 use Rattle.tatp_rows.specs.Ordered.{IsOrderedBy}
@@ -12,7 +12,7 @@ use Rattle.tatp_rows.proofs.OrderedLemmas.{by_test, each-weaker, each_from_two, 
 use Rattle.tatp_rows.proofs.RowLemmas.{between_is}
 use Rattle.row_groups.specs.Groups.{access_type, facility_type, forwarding_start}
 use Rattle.mr_node.specs.Rows.{key_limit, key_of_pair}
-use Rattle.group_tree.specs.Groups.{IsBase, IsGroupAt, base_of}
+use Rattle.group_tree.specs.Groups.{IsBase, IsGroupAt}
 use Rattle.group_tree.specs.Tables.{HoldsAccesses, HoldsFacilities, HoldsForwardings, accesses_listed, facilities_listed, facility_span, forwardings_listed, listed_by, s_id_in, subscriber_span}
 
 -- groups of a subscriber or a facility lie apart
@@ -25,9 +25,10 @@ facility_span_positive = omega arith
 -- keys that rise with places keep the order of rows
 pub listed-ordered : {R : Type 0} (key_at : ℕ → ℕ) (place : R → ℕ) (with : R → R) → ((low high : ℕ) → low < high → key_at low < key_at high) → (rows : List R) → IsOrderedBy place rows → IsOrderedBy key_of_pair (listed_by key_at place with rows)
 listed-ordered key_at place with rising [] ordered = tt
-listed-ordered key_at place with rising (row ∷ rows) ordered =
-    (each-map (λ x. (key_at (place x), with x)) (λ p. key_at (place row) < p.0) rows (each-weaker {P = λ x. place row < place x} {Q = λ x. key_at (place row) < key_at (place x)} (λ x above. rising (place row) (place x) above) rows ordered.0),
-    listed-ordered key_at place with rising rows ordered.1)
+listed-ordered key_at place with rising (row ∷ rows) ordered = (
+  each-map (λ x. (key_at (place x), with x)) (λ p. key_at (place row) < p.0) rows (each-weaker {P = λ x. place row < place x} {Q = λ x. key_at (place row) < key_at (place x)} (λ x above. rising (place row) (place x) above) rows ordered.0),
+  listed-ordered key_at place with rising rows ordered.1,
+)
 
 -- a forwarding starts at an eighth of 0, 1 or 2
 start_eighth : (n : ℕ) → is_start_time n ≡ true → (8 * (n / 8) ≡ n) × (n / 8 < 3)
@@ -45,10 +46,11 @@ StartsWell row = IsTrue (is_start_time row.start_time)
 -- rows that are ordered by their hours are ordered by the eighths of these
 eighths-ordered : (rows : List CallForwardingRow) → AllByRecursion StartsWell rows → IsOrderedBy forwarding_start rows → IsOrderedBy (λ row. row.start_time / 8) rows
 eighths-ordered [] each ordered = tt
-eighths-ordered (row ∷ rows) each ordered =
-    (each_from_two {P = λ x. row.start_time < x.start_time} {Q = StartsWell} {R = λ x. row.start_time / 8 < x.start_time / 8}
-    (λ x above well. let here = start_eighth row.start_time each.0 in let there = start_eighth x.start_time well in let a = here.0 in let b = there.0 in omega arith) rows ordered.0 each.1,
-    eighths-ordered rows each.1 ordered.1)
+eighths-ordered (row ∷ rows) each ordered = (
+  each_from_two {P = λ x. row.start_time < x.start_time} {Q = StartsWell} {R = λ x. row.start_time / 8 < x.start_time / 8}
+      (λ x above well. let here = start_eighth row.start_time each.0 in let there = start_eighth x.start_time well in let a = here.0 in let b = there.0 in omega arith) rows ordered.0 each.1,
+  eighths-ordered rows each.1 ordered.1,
+)
 
 -- so three rows at most
 three_hours : (rows : List CallForwardingRow) → AllByRecursion StartsWell rows → IsOrderedBy forwarding_start rows → length rows ≤ 3

@@ -1,5 +1,5 @@
 -- The groups of the three tables, as they lie in a tree.
-use Rattle.std.specs.Prelude.{◌≡◌, ℕ, ◌+◌, ◌*◌, ◌/◌, ◌%◌, List, map, IsTrue}
+use Rattle.std.specs.Prelude.{ℕ, ◌+◌, ◌*◌, ◌/◌, ◌%◌, List, map, IsTrue}
 use Rattle.tatp_rows.specs.Rows.{AccessInfoRow, SpecialFacilityRow, CallForwardingRow, is_between}
 use Rattle.tatp_rows.specs.declared.ranges.TheConstants.{LAST_SUBSCRIBER}
 use Rattle.row_groups.specs.Groups.{AreAccesses, AreFacilities, AreForwardings, access_type, access_with, facility_type, facility_with, forwarding_start, forwarding_with}

@@ -40,7 +40,10 @@ fn step(walk: &mut Walk, key: u64, mark: u8) {
     walk.rows = walk.rows.wrapping_add(1);
     walk.last = key;
     walk.falls = walk.falls.wrapping_add(u64::from(falls));
-    walk.sum = walk.sum.wrapping_mul(31).wrapping_add(key ^ u64::from(mark));
+    walk.sum = walk
+        .sum
+        .wrapping_mul(31)
+        .wrapping_add(key ^ u64::from(mark));
 }
 
 /// A number drawn by a turn (splitmix).
@@ -151,7 +154,10 @@ fn drawn_changes(rt: HostRuntime) {
     }
     let mut walk = START;
     tree.walk(&mut walk, &|walk, key, row| step(walk, key, row.data1()));
-    assert_eq!(rt; (wrong, walk, wrong_pages(&tree, &marks)), (0, plain_walk(&marks, 0), 0));
+    assert_eq!(rt;
+        (wrong, walk, wrong_pages(&tree, &marks)),
+        (0, plain_walk(&marks, 0), 0)
+    );
     drop(tree);
 }
 
@@ -215,9 +221,10 @@ fn meld_stock(
 /// A walk that goes on over a tree.
 fn walked(tree: &GroupTree<Forwarding, Forwardings>, walk: Walk) -> Walk {
     let mut walk = walk;
-    tree.walk(&mut walk, &|walk, key, row| {
-        step(walk, key, row.end_time())
-    });
+    tree.walk(
+        &mut walk,
+        &|walk, key, row| { step(walk, key, row.end_time()) },
+    );
     walk
 }
 
@@ -231,7 +238,10 @@ fn cut_and_joined(rt: HostRuntime) {
     let mut stock = slice_stock(&rt, alloc, &low);
     let (steps, path) = low.slice_into(&mut high, subscriber_key(150), &mut stock);
     let (below, all) = (walked(&low, START), walked(&high, walked(&low, START)));
-    assert_eq!(rt; (all, below.last < subscriber_key(150), path <= steps), (whole, true, true));
+    assert_eq!(rt;
+        (all, below.last < subscriber_key(150), path <= steps),
+        (whole, true, true)
+    );
     let mut stock = meld_stock(&rt, alloc, &low, &high);
     let _ = low.meld_from(&mut high, &mut stock);
     assert_eq!(rt; (walked(&low, START), walked(&high, START)), (whole, START));

@@ -1,4 +1,4 @@
-use Rattle.group_tree.proofs.Common.{◌∙◌, ap, map, refl}
+use Rattle.group_tree.proofs.Common.{◌∙◌, ap, map}
 use Rattle.group_tree.proofs.AccessLemmas.{access_rows}
 use Rattle.group_tree.proofs.accesses.rows_at.Goals as goal
 

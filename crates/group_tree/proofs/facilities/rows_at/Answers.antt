@@ -1,4 +1,4 @@
-use Rattle.group_tree.proofs.Common.{◌∙◌, ap, map, refl}
+use Rattle.group_tree.proofs.Common.{◌∙◌, ap, map}
 use Rattle.group_tree.proofs.FacilityLemmas.{facility_rows}
 use Rattle.group_tree.proofs.facilities.rows_at.Goals as goal
 

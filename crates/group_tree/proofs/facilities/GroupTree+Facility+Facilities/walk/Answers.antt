@@ -1,4 +1,4 @@
-use Rattle.group_tree.proofs.Common.{HoldsFacilities, facilities_listed, subscriber_span, rows_of}
+use Rattle.group_tree.proofs.Common.{HoldsFacilities, facilities_listed, subscriber_span}
 use Rattle.group_tree.proofs.GroupsLemmas.{HaveLaws}
 use Rattle.group_tree.proofs.PageLemmas.{walked_groups}
 use Rattle.group_tree.specs.Rules.{facility_group_rules, span_positive}

@@ -1,4 +1,4 @@
-use Rattle.group_tree.proofs.Common.{HoldsForwardings, forwardings_listed, facility_span, rows_of}
+use Rattle.group_tree.proofs.Common.{HoldsForwardings, forwardings_listed, facility_span}
 use Rattle.group_tree.proofs.GroupsLemmas.{HaveLaws}
 use Rattle.group_tree.proofs.PageLemmas.{walked_groups}
 use Rattle.group_tree.specs.Rules.{forwarding_group_rules, facility_span_positive}

@@ -1,4 +1,3 @@
-use Rattle.group_tree.proofs.Common.{refl}
 use Rattle.group_tree.proofs.GroupsLemmas.{HaveLaws}
 use Rattle.group_tree.proofs.TreeLemmas.{height_of_rows}
 use Rattle.group_tree.proofs.tree.GroupTree.height.Goals as goal

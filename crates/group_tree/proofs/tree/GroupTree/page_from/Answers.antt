@@ -1,4 +1,4 @@
-use Rattle.group_tree.proofs.Common.{◌∙◌, arith, ap, rules, rows_of, subst, sym, length, ◌++◌, AllByRecursion}
+use Rattle.group_tree.proofs.Common.{◌∙◌, arith, ap, rules, rows_of, ◌++◌}
 use Rattle.group_tree.proofs.GroupsLemmas.{HaveLaws}
 use Rattle.group_tree.proofs.PageLemmas.{page_holds, whole_page}
 use Rattle.group_tree.proofs.tree.GroupTree.page_from.Goals as goal

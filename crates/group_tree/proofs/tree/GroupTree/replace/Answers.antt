@@ -1,4 +1,4 @@
-use Rattle.group_tree.proofs.Common.{◌≡◌, ◌∙◌, ap, base_of, ok_or, Some, None, Grouped}
+use Rattle.group_tree.proofs.Common.{◌≡◌, ◌∙◌, ap, base_of, ok_or, Some, None}
 use Rattle.group_tree.proofs.GroupsLemmas.{HaveLaws}
 use Rattle.group_tree.proofs.TreeLemmas.{absent_replaced, its_rules, its_value, none_replaced, none_there, replaced_are, replaced_there}
 use Rattle.group_tree.proofs.tree.GroupTree.replace.Goals as goal

@@ -1,4 +1,4 @@
-use Rattle.group_tree.proofs.Common.{◌∙◌, ap, Grouped}
+use Rattle.group_tree.proofs.Common.{◌∙◌, ap}
 use Rattle.group_tree.proofs.TreeLemmas.{revised_row}
 use Rattle.group_tree.proofs.tree.GroupTree.revise.Goals as goal
 
