@@ -3,6 +3,7 @@ pub mod BaseLemmas
 pub mod GroupsLemmas
 pub mod TreeLemmas
 pub mod PlacedLemmas
+pub mod TableLemmas
 pub mod TypeLemmas
 pub mod AccessLemmas
 pub mod FacilityLemmas
