@@ -1,5 +1,5 @@
 -- What the calls of a tree of groups say of its rows.
-use Rattle.group_tree.proofs.Common.{◌≡◌, ◌∙◌, refl, sym, ap, subst, ℕ, ◌+◌, ◌*◌, ◌≤◌, ◌≢◌, List, [], ◌∷◌, ◌++◌, length, Option, Some, None, option_map, IsSome, is_some, arith, append-nil, AllByRecursion, nat_tests, filter-append, filter_all, filter_none, each-weaker, keys_below, keys_from, rows_beside, with_row_at_absent, without_row_absent, length-with_row_at, IsHeightOf, IsHeightOfGroups, length-append, IfErr, IfSome, revised_at, unwrap_or, row_at, with_row, with_row_at, without_row, each-with_row, each-with_row_at, each-without_row, ordered-with_row, ordered-with_row_at, ordered-without_row, from-weaker, length-with_row, with_row-front, with_row-skip, with_row_at-here, without_row-here, KeysBelow, KeysFrom, key_of_pair, value_at, AreGroups, base_of, rows_of, Result, Ok, Err, if◌then◌else◌, Back, Refusal, Exists, Memory, IsInserted}
+use Rattle.group_tree.proofs.Common.{◌≡◌, ◌∙◌, refl, sym, ap, subst, ℕ, ◌+◌, ◌*◌, ◌<◌, ◌≤◌, ◌≢◌, List, [], ◌∷◌, ◌++◌, length, Option, Some, None, option_map, IsSome, is_some, arith, append-nil, AllByRecursion, nat_tests, filter-append, filter_all, filter_none, each-weaker, keys_below, keys_from, rows_beside, with_row_at_absent, without_row_absent, length-with_row_at, IsHeightOf, IsHeightOfGroups, length-append, IfErr, IfSome, revised_at, unwrap_or, row_at, with_row, with_row_at, without_row, each-with_row, each-with_row_at, each-without_row, ordered-with_row, ordered-with_row_at, ordered-without_row, from-weaker, length-with_row, with_row-front, with_row-skip, with_row_at-here, without_row-here, KeysBelow, KeysFrom, key_of_pair, value_at, AreGroups, base_of, rows_of, Result, Ok, Err, if◌then◌else◌, Bor, each-append, Back, Refusal, Exists, Memory, IsInserted}
 use Rattle.group_tree.proofs.BaseLemmas.{base_base}
 use Rattle.group_tree.proofs.GroupsLemmas.{Around, HaveLaws, IsFilled, around, found_beside, group_at, put_beside, removed_beside, replaced_beside, rows_below, rows_from, rows_of-append}
 
@@ -94,6 +94,25 @@ module _ {G R : Type 0} {listed : ℕ → G → List (ℕ × R)} {Holds : ℕ �
 
     pub absent_replaced : None ≡ value_at key (listed (base_of span key) group) → (row : R) → rows_of listed groups ≡ with_row_at key_of_pair key (key, row) (rows_of listed groups)
     absent_replaced e row = sym (with_row_at_absent key_of_pair key (key, row) (rows_of listed groups) (no_pair key (rows_of listed groups) (its_value None e)))
+
+    -- it has all rows of its span
+    pub some_beside : rows_beside span key (rows_of listed groups) ≡ listed (base_of span key) group
+    some_beside =
+        let low = base_of span key in
+        let own = listed low group in
+        let front = rows_of listed around_it.front in
+        let back = rows_of listed around_it.back in
+        let rules = laws.rules low group its_rules in
+        let front_below = rows_below listed Holds span laws low around_it.front (base_base span laws.positive key) around_it.front_each around_it.below in
+        let back_from = rows_from listed Holds span laws (low + span) around_it.back around_it.back_each around_it.behind in
+        let both_from = each-append (λ q. low ≤ key_of_pair q) own back rules.from (from-weaker key_of_pair low (low + span) back (omega arith) back_from) in
+        ap (λ gs. rows_beside span key (rows_of listed gs)) around_it.list
+        ∙ ap (rows_beside span key) (rows_of-append listed Holds span laws around_it.front ((low, group) ∷ around_it.back))
+        ∙ ap (keys_below key_of_pair (low + span)) (front_gone low front (own ++ back) front_below ∙ all_kept low (own ++ back) both_from)
+        ∙ filter-append _ own back
+        ∙ ap (λ none. keys_below key_of_pair (low + span) own ++ none) (below_none (low + span) back back_from)
+        ∙ append-nil (keys_below key_of_pair (low + span) own)
+        ∙ filter_all _ own (each-weaker {P = λ q. key_of_pair q < low + span} (λ q less. grind (arith, nat_tests)) own rules.below)
 
     with_it : (new : G) → with_row_at key_of_pair base (base, new) groups ≡ around_it.front ++ (((base_of span key, new) ∷ []) ++ around_it.back)
     with_it new =
@@ -212,6 +231,15 @@ module _ {G R : Type 0} {listed : ℕ → G → List (ℕ × R)} {Holds : ℕ �
     pub first_answer : (answer : Result (Unit {0}) (Back G)) (after : List (ℕ × G)) (given : Result (Unit {0}) (Back R)) → IsInserted base new groups after answer → IsHandedOn answer row given → IsInserted key row (rows_of listed groups) (rows_of listed after) given
     first_answer (Ok u) after given h same = subst (IsInserted key row (rows_of listed groups) (rows_of listed after)) (sym same) (first_in after h.1)
     first_answer (Err back) after given h same = subst (IsInserted key row (rows_of listed groups) (rows_of listed after)) (sym same) (first_refused after back.why h.1 h.2)
+
+-- a group that was found has all rows of its span; without one there are none
+module _ {G R : Type 0} {listed : ℕ → G → List (ℕ × R)} {Holds : ℕ → G → Type 0} {span : ℕ} (laws : HaveLaws listed Holds span) {groups : List (ℕ × G)} (are : AreGroups listed Holds groups) (key : ℕ) {base : ℕ} (at : base ≡ base_of span key) where
+  pub group_found : (lent : Option (Bor G)) → option_map (λ r. r.now) lent ≡ value_at base groups → IfSome lent (λ group. listed (base_of span key) group.now ≡ rows_beside span key (rows_of listed groups))
+  group_found None e = tt
+  group_found (Some group) e = sym (some_beside laws are key at group.now e)
+
+  pub group_missing : (lent : Option (Bor G)) → option_map (λ r. r.now) lent ≡ value_at base groups → lent ≡ None → rows_beside span key (rows_of listed groups) ≡ []
+  group_missing lent e none = none_beside laws are key at (sym (ap (option_map (λ r. r.now)) none) ∙ e)
 
 -- each group has one to four rows
 module _ {G R : Type 0} {listed : ℕ → G → List (ℕ × R)} {Holds : ℕ → G → Type 0} {span : ℕ} (laws : HaveLaws listed Holds span) where

@@ -1,10 +1,10 @@
 //! The tree of groups.
-ghost use Rattle.std.specs.Prelude.{◌≡◌, ◌<◌, ◌≤◌, [], length, is_some, ok_or, IfErr, IfOk, IfSome, OnErr};
+ghost use Rattle.std.specs.Prelude.{◌≡◌, ◌≤◌, [], length, is_some, ok_or, None, IfErr, IfOk, IfSome, OnErr};
 ghost use Rattle.tatp_rows.specs.Ordered.{with_row_at, without_row};
 ghost use Rattle.mr_node.specs.Rows.{key_limit, key_of_pair, value_at};
 ghost use Rattle.mr_node.specs.Revisions.{revised_at, spent_at};
 ghost use Rattle.mr_subtree.specs.Trees.{IsInserted};
-ghost use Rattle.group_tree.specs.Groups.{IsHeightOfGroups, rows_beside};
+ghost use Rattle.group_tree.specs.Groups.{IsHeightOfGroups, base_of, rows_beside};
 
 use crate::group::{Group, Row};
 use mr_node::Revise;
@@ -71,6 +71,24 @@ impl<R: Row, G: Group<R>> GroupTree<R, G> {
     {
         let group = self.groups.get_by_guess(G::base(key), shift)?;
         group.find(key)
+    }
+
+    /// Lends the group to which a key belongs, or returns `None` if it has no row. The group has all rows whose keys lie in
+    /// its span.
+    pub fn group(&self, key: u64) -> Option<&G>
+        ensures found { IfSome result (λ group. G.listed (base_of G.span key) group.now ≡ rows_beside G.span key self.now.rows) }
+        ensures none { result ≡ None → rows_beside G.span key self.now.rows ≡ [] }
+    {
+        self.groups.get(G::base(key))
+    }
+
+    /// Lends the group to which a key belongs, as `group` does. It is quicker than that in a dense tree, in the same way
+    /// as `get_by_guess`.
+    pub fn group_by_guess(&self, key: u64, shift: u32) -> Option<&G>
+        ensures found { IfSome result (λ group. G.listed (base_of G.span key) group.now ≡ rows_beside G.span key self.now.rows) }
+        ensures none { result ≡ None → rows_beside G.span key self.now.rows ≡ [] }
+    {
+        self.groups.get_by_guess(G::base(key), shift)
     }
 
     /// Replaces the row with the key of this one, and returns the old one. If there is none, it hands the new one back.
