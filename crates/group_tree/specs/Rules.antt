@@ -23,7 +23,7 @@ pub facility_span_positive : 0 < facility_span
 facility_span_positive = omega arith
 
 -- keys that rise with places keep the order of rows
-pub listed-ordered : {R : Type 0} (key_at : ℕ → ℕ) (place : R → ℕ) (with : R → R) → ((low high : ℕ) → low < high → key_at low < key_at high) → (rows : List R) → IsOrderedBy place rows → IsOrderedBy key_of_pair (listed_by key_at place with rows)
+listed-ordered : {R : Type 0} (key_at : ℕ → ℕ) (place : R → ℕ) (with : R → R) → ((low high : ℕ) → low < high → key_at low < key_at high) → (rows : List R) → IsOrderedBy place rows → IsOrderedBy key_of_pair (listed_by key_at place with rows)
 listed-ordered key_at place with rising [] ordered = tt
 listed-ordered key_at place with rising (row ∷ rows) ordered = (
   each-map (λ x. (key_at (place x), with x)) (λ p. key_at (place row) < p.0) rows (each-weaker {P = λ x. place row < place x} {Q = λ x. key_at (place row) < key_at (place x)} (λ x above. rising (place row) (place x) above) rows ordered.0),
@@ -40,7 +40,7 @@ start_eighth n is =
     (λ u. let last : (n == 16) ≡ true = rw (t, u) at is in let sixteen : n ≡ 16 = grind (arith, nat_tests) in (omega arith, omega arith)))
 
 -- the row starts at one of its hours
-abbrev pub StartsWell : CallForwardingRow → Type 0
+abbrev StartsWell : CallForwardingRow → Type 0
 StartsWell row = IsTrue (is_start_time row.start_time)
 
 -- rows that are ordered by their hours are ordered by the eighths of these
@@ -60,7 +60,7 @@ three_hours rows each ordered =
     (each-weaker {P = StartsWell} {Q = λ row. row.start_time / 8 < 3} (λ row well. (start_eighth row.start_time well).1) rows each)
 
 -- a group of at most so many rows, whose places lie in a span
-pub listed_rules : {R : Type 0} (key_at : ℕ → ℕ) (place : R → ℕ) (with : R → R) (span base : ℕ) (rows : List R) → ((low high : ℕ) → low < high → key_at low < key_at high) → IsBase span base → base + span ≤ key_limit
+listed_rules : {R : Type 0} (key_at : ℕ → ℕ) (place : R → ℕ) (with : R → R) (span base : ℕ) (rows : List R) → ((low high : ℕ) → low < high → key_at low < key_at high) → IsBase span base → base + span ≤ key_limit
     → IsOrderedBy place rows → AllByRecursion (λ row. (base ≤ key_at (place row)) × (key_at (place row) < base + span)) rows → length rows ≤ 4 → IsGroupAt span base (listed_by key_at place with rows)
 listed_rules key_at place with span base rows rising at small ordered each few = record {
   at = at;

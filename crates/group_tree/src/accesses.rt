@@ -9,7 +9,8 @@ use arrayvec::ArrayVec;
 use row_groups::Accesses;
 use tatp_rows::{Access, LAST_SUBSCRIBER};
 
-/// Returns the rows with their keys, in order, of a group that lies at a key. If it is no key of a group, it returns none.
+/// Returns the rows with their keys, in order, of a group that lies at a key. If that is no key of a group, it returns
+/// none.
 fn rows_at(group: &Accesses, base: u64) -> ArrayVec<(u64, Access), 4>
     ensures rows { HoldsAccesses base group.now → result.items ≡ accesses_listed base group.now }
     ensures few { length result.items ≤ 4 }

@@ -9,7 +9,8 @@ use arrayvec::ArrayVec;
 use row_groups::Facilities;
 use tatp_rows::{Facility, LAST_SUBSCRIBER};
 
-/// Returns the rows with their keys, in order, of a group that lies at a key. If it is no key of a group, it returns none.
+/// Returns the rows with their keys, in order, of a group that lies at a key. If that is no key of a group, it returns
+/// none.
 fn rows_at(group: &Facilities, base: u64) -> ArrayVec<(u64, Facility), 4>
     ensures rows { HoldsFacilities base group.now → result.items ≡ facilities_listed base group.now }
     ensures few { length result.items ≤ 4 }

@@ -9,7 +9,8 @@ use arrayvec::ArrayVec;
 use row_groups::Forwardings;
 use tatp_rows::{Forwarding, LAST_SUBSCRIBER, is_between};
 
-/// Returns the rows with their keys, in order, of a group that lies at a key. If it is no key of a group, it returns none.
+/// Returns the rows with their keys, in order, of a group that lies at a key. If that is no key of a group, it returns
+/// none.
 fn rows_at(group: &Forwardings, base: u64) -> ArrayVec<(u64, Forwarding), 4>
     ensures rows { HoldsForwardings base group.now → result.items ≡ forwardings_listed base group.now }
     ensures few { length result.items ≤ 4 }

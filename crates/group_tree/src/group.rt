@@ -18,9 +18,10 @@ pub trait Row: Copy + Default {
         ensures small { result < key_limit };
 }
 
-/// Rows that lie together in one value of a tree. The keys of a group's rows lie in one span: from a multiple of `span`,
-/// which is the key of the group in its tree, up to the next one. In contracts, `listed` is the list of the rows with
-/// their keys, for a group that lies at a key, and `Holds` has the rules of such a group. No call takes memory.
+/// Rows that lie together in one value of a tree. The keys of a group's rows lie in one span: from a multiple of
+/// `span`, which is the key of the group in its tree, up to the next one. In contracts, `listed` is the list of the
+/// rows with their keys, for a group that lies at a key, and `Holds` has the rules of such a group. No call takes
+/// memory.
 pub trait Group<R: Row>: Copy + Default {
     ghost span: { ℕ };
 
@@ -28,7 +29,7 @@ pub trait Group<R: Row>: Copy + Default {
 
     ghost Holds: { ℕ → Self → Type 0 };
 
-    /// Returns the key at which the group with this key lies in its tree.
+    /// Returns the key at which the group of a row with this key lies in its tree.
     fn base(key: u64) -> u64
         ensures { result ≡ base_of span key };
 

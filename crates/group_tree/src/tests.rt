@@ -161,8 +161,8 @@ fn drawn_changes(rt: HostRuntime) {
     drop(tree);
 }
 
-/// The forwardings of so many subscribers, each with those of a drawn pattern, put in by a drawn order; where memory was
-/// refused, at the second try.
+/// The forwardings of so many subscribers, each with those of a drawn pattern, put in by a drawn order; where memory
+/// was refused, at the second try.
 fn forwardings(
     rt: &impl Abort,
     mut tree: GroupTree<Forwarding, Forwardings>,

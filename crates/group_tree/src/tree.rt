@@ -64,8 +64,8 @@ impl<R: Row, G: Group<R>> GroupTree<R, G> {
     }
 
     /// Returns the row at a key, or `None` if there is none. It first looks where the group is in a dense tree, whose
-    /// groups are 2^`shift` apart and came in rising order. In such a tree it is quicker than `get`, and in others it is
-    /// slower.
+    /// groups are 2^`shift` apart and came in rising order. In such a tree it is quicker than `get`, and in others it
+    /// is slower.
     pub fn get_by_guess(&self, key: u64, shift: u32) -> Option<R>
         ensures { result ≡ value_at key self.now.rows }
     {
@@ -73,8 +73,8 @@ impl<R: Row, G: Group<R>> GroupTree<R, G> {
         group.find(key)
     }
 
-    /// Lends the group to which a key belongs, or returns `None` if it has no row. The group has all rows whose keys lie in
-    /// its span.
+    /// Lends the group to which a key belongs, or returns `None` if it has no row. The group has all rows whose keys
+    /// lie in its span.
     pub fn group(&self, key: u64) -> Option<&G>
         ensures found { IfSome result (λ group. G.listed (base_of G.span key) group.now ≡ rows_beside G.span key self.now.rows) }
         ensures none { result ≡ None → rows_beside G.span key self.now.rows ≡ [] }
@@ -82,8 +82,8 @@ impl<R: Row, G: Group<R>> GroupTree<R, G> {
         self.groups.get(G::base(key))
     }
 
-    /// Lends the group to which a key belongs, as `group` does. It is quicker than that in a dense tree, in the same way
-    /// as `get_by_guess`.
+    /// Lends the group to which a key belongs, as `group` does. It is quicker than that in a dense tree, in the same
+    /// way as `get_by_guess`.
     pub fn group_by_guess(&self, key: u64, shift: u32) -> Option<&G>
         ensures found { IfSome result (λ group. G.listed (base_of G.span key) group.now ≡ rows_beside G.span key self.now.rows) }
         ensures none { result ≡ None → rows_beside G.span key self.now.rows ≡ [] }
@@ -110,8 +110,8 @@ impl<R: Row, G: Group<R>> GroupTree<R, G> {
         }
     }
 
-    /// Changes the row at a key, which keeps its key. It returns false if there is none, and then nothing has changed. It
-    /// takes no memory.
+    /// Changes the row at a key, which keeps its key. It returns false if there is none, and then nothing has changed.
+    /// It takes no memory.
     pub fn revise<E: Revise<R>>(&mut self, key: u64, revision: &mut E) -> bool
         requires { IfSome (value_at key self.old.rows) (λ row. R.row_key (E.revised revision.old row) ≡ key) }
         ensures rows { self.new ≡ record self.old { rows = revised_at key (E.revised revision.old) self.old.rows } }
