@@ -1,5 +1,5 @@
 //! The tree of groups.
-ghost use Rattle.std.specs.Prelude.{◌≡◌, ◌≤◌, [], length, is_some, ok_or, None, IfErr, IfOk, IfSome, OnErr};
+ghost use Rattle.std.specs.Prelude.{◌≡◌, ◌<◌, ◌≤◌, [], length, is_some, ok_or, None, IfErr, IfOk, IfSome, OnErr};
 ghost use Rattle.tatp_rows.specs.Ordered.{with_row_at, without_row};
 ghost use Rattle.mr_node.specs.Rows.{key_limit, key_of_pair, value_at};
 ghost use Rattle.mr_node.specs.Revisions.{revised_at, spent_at};
