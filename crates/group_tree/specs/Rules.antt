@@ -19,6 +19,7 @@ use Rattle.group_tree.specs.Tables.{HoldsAccesses, HoldsFacilities, HoldsForward
 pub span_positive : 0 < subscriber_span
 span_positive = omega arith
 
+-- the same of a facility
 pub facility_span_positive : 0 < facility_span
 facility_span_positive = omega arith
 
@@ -75,6 +76,7 @@ listed_rules key_at place with span base rows rising at small ordered each few =
 base_small : (base : ℕ) → IsTrue (is_between 1 LAST_SUBSCRIBER (s_id_in base)) → base + subscriber_span ≤ key_limit
 base_small base s_id = let range = between_is 1 LAST_SUBSCRIBER (s_id_in base) s_id in let most = range.1 in omega arith
 
+-- the span of a facility's rows
 facility_small : (base : ℕ) → IsBase facility_span base → IsTrue (is_between 1 LAST_SUBSCRIBER (s_id_in base)) → base + facility_span ≤ key_limit
 facility_small base at s_id = let range = between_is 1 LAST_SUBSCRIBER (s_id_in base) s_id in let most = range.1 in omega arith
 
@@ -82,18 +84,21 @@ facility_small base at s_id = let range = between_is 1 LAST_SUBSCRIBER (s_id_in 
 four_types : {R : Type 0} (place : R → ℕ) (rows : List R) → IsOrderedBy place rows → AllByRecursion (λ row. 1 ≤ place row) rows → AllByRecursion (λ row. place row < 5) rows → length rows ≤ 4
 four_types place rows ordered from below = length-ordered place 1 5 rows ordered from below
 
+-- the accesses of a subscriber are a group at its key
 pub access_group_rules : (base : ℕ) (rows : List AccessInfoRow) → HoldsAccesses base rows → IsGroupAt subscriber_span base (accesses_listed base rows)
 access_group_rules base rows holds =
     listed_rules (λ kind. base + 256 * kind) access_type _ subscriber_span base rows (λ low high less. omega arith) holds.at (base_small base holds.s_id) holds.rules.ordered
     (each-weaker (λ row h. let most = h.2 in (omega arith, omega arith)) rows holds.rules.each)
     (four_types access_type rows holds.rules.ordered (each-weaker (λ row h. h.1) rows holds.rules.each) (each-weaker (λ row h. let most = h.2 in omega arith) rows holds.rules.each))
 
+-- so are the facilities
 pub facility_group_rules : (base : ℕ) (rows : List SpecialFacilityRow) → HoldsFacilities base rows → IsGroupAt subscriber_span base (facilities_listed base rows)
 facility_group_rules base rows holds =
     listed_rules (λ kind. base + 256 * kind) facility_type _ subscriber_span base rows (λ low high less. omega arith) holds.at (base_small base holds.s_id) holds.rules.ordered
     (each-weaker (λ row h. let most = h.2 in (omega arith, omega arith)) rows holds.rules.each)
     (four_types facility_type rows holds.rules.ordered (each-weaker (λ row h. h.1) rows holds.rules.each) (each-weaker (λ row h. let most = h.2 in omega arith) rows holds.rules.each))
 
+-- and the forwardings of a facility, at the facility's key
 pub forwarding_group_rules : (base : ℕ) (rows : List CallForwardingRow) → HoldsForwardings base rows → IsGroupAt facility_span base (forwardings_listed base rows)
 forwarding_group_rules base rows holds =
     let starts = each-weaker {Q = StartsWell} (λ row h. h.2) rows holds.rules.each in
