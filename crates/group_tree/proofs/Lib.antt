@@ -1,0 +1,13 @@
+pub mod Common
+pub mod BaseLemmas
+pub mod GroupsLemmas
+pub mod TreeLemmas
+pub mod PlacedLemmas
+pub mod TableLemmas
+pub mod TypeLemmas
+pub mod AccessLemmas
+pub mod FacilityLemmas
+pub mod HourLemmas
+pub mod ForwardingLemmas
+pub mod PageLemmas
+pub mod CutLemmas

@@ -1,0 +1,86 @@
+-- A group's rows with their keys, where keys rise with the rows' places.
+use Rattle.group_tree.proofs.Common.{◌≡◌, ◌≢◌, ◌∙◌, refl, sym, ap, ℕ, ◌<◌, ◌==◌, nat_lt, true, false, List, [], ◌∷◌, Option, Some, None, option_map, IsSome, arith, nat_tests, by_test, row_at, with_row, with_row_at, without_row, key_of_pair, value_at, IsPutAt, Result, Ok, Err, Refusal, is_ok, listed_by, IsPut}
+
+module _ {R : Type 0} (key_at : ℕ → ℕ) (rising : (low high : ℕ) → low < high → key_at low < key_at high) (place : R → ℕ) (with : R → R) where
+  -- keys are alike where places are, and lie as they do
+  same_at : (a b : ℕ) → (key_at a == key_at b) ≡ (a == b)
+  same_at a b =
+      by_test (nat_lt a b)
+      (λ t. let less : a < b = grind (arith, nat_tests) in let keys = rising a b less in
+      let x : (key_at a == key_at b) ≡ false = grind (arith, nat_tests) in let y : (a == b) ≡ false = grind (arith, nat_tests) in x ∙ sym y)
+      (λ t. by_test (nat_lt b a)
+      (λ u. let more : b < a = grind (arith, nat_tests) in let keys = rising b a more in
+      let x : (key_at a == key_at b) ≡ false = grind (arith, nat_tests) in let y : (a == b) ≡ false = grind (arith, nat_tests) in x ∙ sym y)
+      (λ u. let same : a ≡ b = grind (arith, nat_tests) in
+      let y : (a == b) ≡ true = grind (arith, nat_tests) in
+      let keys : key_at a ≡ key_at b = ap key_at same in
+      let x : (key_at a == key_at b) ≡ true = grind (arith, nat_tests) in x ∙ sym y))
+
+  less_at : (a b : ℕ) → nat_lt (key_at a) (key_at b) ≡ nat_lt a b
+  less_at a b =
+      by_test (nat_lt a b)
+      (λ t. let less : a < b = grind (arith, nat_tests) in let keys = rising a b less in
+      let x : nat_lt (key_at a) (key_at b) ≡ true = grind (arith, nat_tests) in x ∙ sym t)
+      (λ t. by_test (nat_lt b a)
+      (λ u. let more : b < a = grind (arith, nat_tests) in let keys = rising b a more in
+      let x : nat_lt (key_at a) (key_at b) ≡ false = grind (arith, nat_tests) in x ∙ sym t)
+      (λ u. let same : a ≡ b = grind (arith, nat_tests) in
+      let keys : key_at a ≡ key_at b = ap key_at same in
+      let x : nat_lt (key_at a) (key_at b) ≡ false = grind (arith, nat_tests) in x ∙ sym t))
+
+  -- a look at a place
+  pub row_at-listed : (n : ℕ) (rows : List R) → row_at key_of_pair (key_at n) (listed_by key_at place with rows) ≡ option_map (λ row. (key_at (place row), with row)) (row_at place n rows)
+  row_at-listed n [] = refl
+  row_at-listed n (x ∷ rows) =
+      by_test (place x == n)
+      (λ e. let f : (key_at (place x) == key_at n) ≡ true = same_at (place x) n ∙ e in rw (e, f) refl)
+      (λ e. let f : (key_at (place x) == key_at n) ≡ false = same_at (place x) n ∙ e in rw (e, f) (row_at-listed n rows))
+
+  pub value_at-listed : (n : ℕ) (rows : List R) → option_map with (row_at place n rows) ≡ value_at (key_at n) (listed_by key_at place with rows)
+  value_at-listed n rows = sym (ap (option_map (λ p. p.1)) (row_at-listed n rows) ∙ mapped (row_at place n rows))
+    where
+      mapped : (found : Option R) → option_map (λ (p : ℕ × R). p.1) (option_map (λ (row : R). (key_at (place row), with row)) found) ≡ option_map with found
+      mapped None = refl
+      mapped (Some row) = refl
+
+  -- at a key of no place there is nothing
+  pub no_place : (key : ℕ) → ((n : ℕ) → key_at n ≢ key) → (rows : List R) → row_at key_of_pair key (listed_by key_at place with rows) ≡ None
+  no_place key other [] = refl
+  no_place key other (x ∷ rows) =
+      let differ = other (place x) in
+      let f : (key_at (place x) == key) ≡ false = grind (arith, nat_tests) in rw f (no_place key other rows)
+
+  -- edits at a place
+  pub with_row-listed : (y : R) (rows : List R) → listed_by key_at place with (with_row place y rows) ≡ with_row key_of_pair (key_at (place y), with y) (listed_by key_at place with rows)
+  with_row-listed y [] = refl
+  with_row-listed y (x ∷ rows) =
+      by_test (nat_lt (place y) (place x))
+      (λ e. let f : nat_lt (key_at (place y)) (key_at (place x)) ≡ true = less_at (place y) (place x) ∙ e in rw (e, f) refl)
+      (λ e. let f : nat_lt (key_at (place y)) (key_at (place x)) ≡ false = less_at (place y) (place x) ∙ e in
+      rw (e, f) (ap (λ rest. (key_at (place x), with x) ∷ rest) (with_row-listed y rows)))
+
+  pub with_row_at-listed : (n : ℕ) (y : R) (rows : List R) → place y ≡ n → listed_by key_at place with (with_row_at place n y rows) ≡ with_row_at key_of_pair (key_at n) (key_at n, with y) (listed_by key_at place with rows)
+  with_row_at-listed n y [] at = refl
+  with_row_at-listed n y (x ∷ rows) at =
+      by_test (place x == n)
+      (λ e. let f : (key_at (place x) == key_at n) ≡ true = same_at (place x) n ∙ e in rw (e, f, at) refl)
+      (λ e. let f : (key_at (place x) == key_at n) ≡ false = same_at (place x) n ∙ e in
+      rw (e, f) (ap (λ rest. (key_at (place x), with x) ∷ rest) (with_row_at-listed n y rows at)))
+
+  pub without_row-listed : (n : ℕ) (rows : List R) → listed_by key_at place with (without_row place n rows) ≡ without_row key_of_pair (key_at n) (listed_by key_at place with rows)
+  without_row-listed n [] = refl
+  without_row-listed n (x ∷ rows) =
+      by_test (place x == n)
+      (λ e. let f : (key_at (place x) == key_at n) ≡ true = same_at (place x) n ∙ e in rw (e, f) refl)
+      (λ e. let f : (key_at (place x) == key_at n) ≡ false = same_at (place x) n ∙ e in
+      rw (e, f) (ap (λ rest. (key_at (place x), with x) ∷ rest) (without_row-listed n rows)))
+
+  -- a row is put into a group, or refused
+  pub put-listed : (y : R) (before after : List R) (answer : Result (Unit {0}) Refusal) → IsPut place y before after answer → IsPutAt (key_at (place y)) (with y) (listed_by key_at place with before) (listed_by key_at place with after) (is_ok answer)
+  put-listed y before after (Ok u) h =
+      (row_at-listed (place y) before ∙ ap (option_map (λ row. (key_at (place row), with row))) h.0, ap (listed_by key_at place with) h.1 ∙ with_row-listed y before)
+  put-listed y before after (Err why) h = (there (row_at place (place y) before) h.1 (row_at-listed (place y) before), ap (listed_by key_at place with) h.2)
+    where
+      there : (found : Option R) → IsSome found → row_at key_of_pair (key_at (place y)) (listed_by key_at place with before) ≡ option_map (λ row. (key_at (place row), with row)) found → IsSome (row_at key_of_pair (key_at (place y)) (listed_by key_at place with before))
+      there None some e = let wrong : ⊥ = cc in absurd wrong
+      there (Some row) some e = rw e refl

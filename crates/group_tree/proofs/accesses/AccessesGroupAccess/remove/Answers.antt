@@ -1,0 +1,18 @@
+use Rattle.group_tree.proofs.Common.{◌∙◌, ap, option_map, sym}
+use Rattle.group_tree.proofs.AccessLemmas.{access_found, access_left, access_left_there, access_missing, holds_without}
+use Rattle.group_tree.proofs.accesses.AccessesGroupAccess.remove.Goals as goal
+
+pub returns-then-key-ne0-clause-value : goal.returns-then-key-ne0-clause-value
+returns-then-key-ne0-clause-value c = sym (ap (option_map (λ p. p.1)) (access_missing c.args.key c.args.self.now c.if-key-ne0.true))
+
+pub returns-then-key-ne0-clause-rows : goal.returns-then-key-ne0-clause-rows
+returns-then-key-ne0-clause-rows c = access_left_there c.args.key c.args.self.now c.if-key-ne0.true
+
+pub returns-clause-value : goal.returns-clause-value
+returns-clause-value c = c.remove.ensures.value ∙ access_found c.args.key c.args.self.now c.if-key-ne0.false
+
+pub returns-clause-rows : goal.returns-clause-rows
+returns-clause-rows c = rw c.remove.ensures.rows (access_left c.args.key c.args.self.now c.if-key-ne0.false)
+
+pub returns-clause-rules : goal.returns-clause-rules
+returns-clause-rules c = rw c.remove.ensures.rows (holds_without _ _ c.args.self.now c.requires)

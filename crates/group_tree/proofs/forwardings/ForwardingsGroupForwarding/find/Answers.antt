@@ -1,0 +1,6 @@
+use Rattle.group_tree.proofs.Common.{◌∙◌}
+use Rattle.group_tree.proofs.ForwardingLemmas.{forwarding_found}
+use Rattle.group_tree.proofs.forwardings.ForwardingsGroupForwarding.find.Goals as goal
+
+pub returns : goal.returns
+returns c = c.get.ensures ∙ forwarding_found c.args.key c.args.self.now

@@ -1,0 +1,8 @@
+use Rattle.group_tree.proofs.ForwardingLemmas.{forwarding_replaced, holds_replaced}
+use Rattle.group_tree.proofs.forwardings.ForwardingsGroupForwarding.replace.Goals as goal
+
+pub returns-clause-rows : goal.returns-clause-rows
+returns-clause-rows c = forwarding_replaced c.args.row.now c.s_id-s_id.ensures.in_range c.args.self.now c.replace.new.self c.replace.result c.replace.ensures.value c.replace.ensures.rows
+
+pub returns-clause-rules : goal.returns-clause-rules
+returns-clause-rules c = holds_replaced c.args.row.now c.s_id-s_id.ensures.in_range _ c.args.self.now c.replace.new.self c.requires c.replace.ensures.rows

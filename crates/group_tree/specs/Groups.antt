@@ -1,0 +1,67 @@
+-- Groups that lie in a tree, and the rows that they have together.
+use Rattle.std.specs.Prelude.{◌≡◌, ℕ, ◌+◌, ◌*◌, ◌/◌, ◌^◌, ◌<◌, ◌≤◌, Bool, true, false, List, [], ◌∷◌, ◌++◌, length, Option, None, IsSome, refl}
+use Rattle.std.specs.List.{AllByRecursion}
+use Rattle.std.specs.Coded.{Coded, code_by, coded×, coded_ℕ, coded_list}
+use Rattle.tatp_rows.specs.Ordered.{IsOrderedBy, row_at, with_row, with_row_at}
+use Rattle.tatp_rows.specs.Spans.{keys_below, keys_from}
+use Rattle.mr_node.specs.Rows.{key_limit, key_of_pair, value_at, KeysBelow, KeysFrom}
+
+-- what is seen of a tree of groups: its height, and its rows in order, each with its key
+pub record Grouped (R : Type 0) : Type 0 where
+  pub height : ℕ
+  pub rows : List (ℕ × R)
+
+-- what is seen of a tree of groups is stored as the pair of its parts
+abbrev pub grouped_code : {R : Type 0} → Coded R → Coded (Grouped R)
+grouped_code {R} code =
+    code_by (ℕ × List (ℕ × R)) (coded× coded_ℕ (coded_list (coded× coded_ℕ code))) (λ s. (s.height, s.rows)) (λ p. record { height = p.0; rows = p.1 }) (λ _. refl)
+
+-- the key at which the group of a key lies, where groups lie at multiples of a span
+abbrev pub base_of : ℕ → ℕ → ℕ
+base_of span key = key / span * span
+
+-- a tree may be cut there: no group has keys on both sides
+abbrev pub IsBase : ℕ → ℕ → Type 0
+IsBase span key = base_of span key ≡ key
+
+-- the rows of a group that lies at a key: in order, at most four, and in the span from that key on
+pub record IsGroupAt {R : Type 0} (span base : ℕ) (rows : List (ℕ × R)) : Type 0 where
+  pub at : IsBase span base
+  pub ordered : IsOrderedBy key_of_pair rows
+  pub from : KeysFrom base rows
+  pub below : KeysBelow (base + span) rows
+  pub few : length rows ≤ 4
+  pub small : base + span ≤ key_limit
+
+-- the rows of all groups, in order
+abbrev pub rows_of : {G R : Type 0} → (ℕ → G → List (ℕ × R)) → List (ℕ × G) → List (ℕ × R)
+rows_of listed [] = []
+rows_of listed (p ∷ groups) = listed p.0 p.1 ++ rows_of listed groups
+
+-- groups in order, none of them empty
+pub record AreGroups {G R : Type 0} (listed : ℕ → G → List (ℕ × R)) (Holds : ℕ → G → Type 0) (groups : List (ℕ × G)) : Type 0 where
+  pub ordered : IsOrderedBy key_of_pair groups
+  pub each : AllByRecursion (λ p. Holds p.0 p.1 × (1 ≤ length (listed p.0 p.1))) groups
+
+-- a row is put among others, or there is one with its key, and then nothing changes
+abbrev pub IsPutAt : {R : Type 0} → ℕ → R → List (ℕ × R) → List (ℕ × R) → Bool → Type 0
+IsPutAt key row before after true = (row_at key_of_pair key before ≡ None) × (after ≡ with_row key_of_pair (key, row) before)
+IsPutAt key row before after false = IsSome (row_at key_of_pair key before) × (after ≡ before)
+
+-- a row takes the place of the one with its key, which is told, if there is one
+pub record IsReplacedAt {R : Type 0} (key : ℕ) (row : R) (before after : List (ℕ × R)) (old : Option R) : Type 0 where
+  pub value : old ≡ value_at key before
+  pub rows : after ≡ with_row_at key_of_pair key (key, row) before
+
+-- the rows of the group to which a key belongs
+abbrev pub rows_beside : {R : Type 0} → ℕ → ℕ → List (ℕ × R) → List (ℕ × R)
+rows_beside span key rows = keys_below key_of_pair (base_of span key + span) (keys_from key_of_pair (base_of span key) rows)
+
+-- there is a key at which a group may begin that parts the low rows from the high ones
+abbrev pub AreGroupsApart : {R : Type 0} → ℕ → List (ℕ × R) → List (ℕ × R) → Type 0
+AreGroupsApart span low high = (key : ℕ) × IsBase span key × KeysBelow key low × KeysFrom key high
+
+-- a height and a number of rows that belong together, where a group has one to four rows
+pub record IsHeightOfGroups (height count : ℕ) : Type 0 where
+  pub low : 0 < height → 2 * 16 ^ height ≤ count
+  pub high : count ≤ 4 * 32 ^ (height + 1)

@@ -1,0 +1,109 @@
+//! The rows of a tree of groups, page by page, and at several keys at once.
+ghost use Rattle.std.specs.Prelude.{◌≡◌, ◌+◌, ◌*◌, ◌≤◌, ◌++◌, [], length, map, None, IfSome};
+ghost use Rattle.std.specs.List.{AllByRecursion};
+ghost use Rattle.tatp_rows.specs.Spans.{keys_from};
+ghost use Rattle.mr_node.specs.Pages.{IsPage};
+ghost use Rattle.mr_node.specs.Rows.{key_of_pair, value_at};
+ghost use Rattle.group_tree.specs.Groups.{AreGroups, base_of, rows_of};
+
+use crate::group::{Group, Row};
+use crate::tree::GroupTree;
+use arrayvec::ArrayVec;
+use mr_subtree::SubTree;
+
+/// Returns the keys of the groups to which keys belong.
+fn bases<R: Row, G: Group<R>>(keys: &[u64]) -> ArrayVec<u64, 16>
+    requires { length keys.now ≤ 16 }
+    ensures { result.items ≡ map (base_of G.span) keys.now }
+{
+    let mut bases = ArrayVec::new();
+    for place in 0..keys.len() {
+        bases.push(G::base(keys[place]));
+    }
+    bases
+}
+
+/// Returns the row at a key of the key's group, or `None` if there is no group, or no row in it.
+fn find_in<R: Row, G: Group<R>>(group: &Option<G>, key: u64) -> Option<R>
+    requires { IfSome group.now (λ group. G.Holds (base_of G.span key) group) }
+    ensures none { group.now ≡ None → result ≡ None }
+    ensures some { IfSome group.now (λ group. result ≡ value_at key (G.listed (base_of G.span key) group)) }
+{
+    match group {
+        Some(group) => group.find(key),
+        None => None,
+    }
+}
+
+/// Appends the rows of groups to a page that has room for four of each.
+fn push_groups<R: Row, G: Group<R>>(page: &mut ArrayVec<(u64, R), 132>, groups: &[(u64, G)])
+    requires room { length page.old.items + 4 * length groups.now ≤ 132 }
+    requires groups { AllByRecursion (λ p. G.Holds p.0 p.1) groups.now }
+    ensures { page.new.items ≡ page.old.items ++ rows_of G.listed groups.now }
+{
+    for place in 0..groups.len() {
+        let pair = &groups[place];
+        pair.1.push_from(pair.0, 0, page);
+    }
+}
+
+/// Puts the rows of a key's group, from the key on, into an empty page. It returns the key from which the groups behind
+/// that one are.
+fn start_page<R: Row, G: Group<R>>(
+    groups: &SubTree<G>,
+    key: u64,
+    page: &mut ArrayVec<(u64, R), 132>,
+) -> u64
+    requires groups { AreGroups G.listed G.Holds groups.now.rows }
+    requires empty { page.old.items ≡ [] }
+    ensures few { length page.new.items ≤ 4 }
+    ensures front { keys_from key_of_pair key (rows_of G.listed groups.now.rows) ≡ page.new.items ++ rows_of G.listed (keys_from key_of_pair result groups.now.rows) }
+{
+    let base = G::base(key);
+    let Some(group) = groups.get(base) else {
+        return key;
+    };
+    group.push_from(base, key, page);
+    key + 1
+}
+
+impl<R: Row, G: Group<R>> GroupTree<R, G> {
+    /// Puts the next rows, from a key on, into an empty page: those of the key's group, and those of as many groups
+    /// behind it as one leaf has. It puts at least one if there is one. The groups are found in an empty list of the
+    /// caller's.
+    pub fn page_from(
+        &self,
+        key: u64,
+        groups: &mut ArrayVec<(u64, G), 32>,
+        page: &mut ArrayVec<(u64, R), 132>,
+    )
+        requires groups { groups.old.items ≡ [] }
+        requires page { page.old.items ≡ [] }
+        ensures { IsPage key self.now.rows page.new.items }
+    {
+        let from = start_page(&self.groups, key, page);
+        self.groups.page_from(from, groups);
+        push_groups(page, groups.as_slice());
+    }
+
+    /// Puts the rows at up to 16 keys into an empty list, one for each key in the order of the keys, with `None` for a
+    /// key that isn't there. The keys are looked up with overlapping memory accesses. The groups are found in an empty
+    /// list of the caller's.
+    pub fn copy_many(
+        &self,
+        keys: &[u64],
+        groups: &mut ArrayVec<Option<G>, 16>,
+        found: &mut ArrayVec<Option<R>, 16>,
+    )
+        requires few { length keys.now ≤ 16 }
+        requires groups { groups.old.items ≡ [] }
+        requires empty { found.old.items ≡ [] }
+        ensures { found.new.items ≡ map (λ key. value_at key self.now.rows) keys.now }
+    {
+        self.groups
+            .copy_many(bases::<R, G>(keys).as_slice(), groups);
+        for place in 0..keys.len() {
+            found.push(find_in(&groups.as_slice()[place], keys[place]));
+        }
+    }
+}
