@@ -1,5 +1,5 @@
 -- What one call more makes of a file's list of calls.
-use Rattle.std.proofs.Common.{inl, inr, ⊎_elim, ◌≡◌, ◌⊎◌, Bool, true, false, ℕ, ◌-◌, ◌≤◌, List, [], ◌∷◌, length, replicate, refl, sym, ◌∙◌, subst, arith}
+use Rattle.std.proofs.Common.{inl, inr, ⊎_elim, ◌≡◌, ◌⊎◌, Bool, true, false, ℕ, ◌-◌, ◌≤◌, List, [], ◌∷◌, length, replicate, Result, Ok, Err, OnOk, OnErr, refl, sym, ◌∙◌, subst, arith}
 use Rattle.std.proofs.lemmas.List.{append-nil}
 use Rattle.journal_file.specs.Calls.{Call, seen_after, left_after, left_since}
 use Rattle.journal_file.specs.Laws.{seen_left}
@@ -14,6 +14,12 @@ one_call calls call = record {
   nothing_else = λ t c le left. ⊎_elim (λ now. inr now) (λ was. inl was.1) left;
   keeps = λ t c le was. inr (le, was);
 }
+
+-- what holds of the list with one call more, and of the list without it, holds of the one that a call which may give up leaves
+pub noted_or_same : {T E : Type 0} (result : Result T E) (P : List Call → Type 0) {calls later : List Call} {call : Call}
+    → OnOk result (later ≡ call ∷ calls) → OnErr result (later ≡ calls) → P (call ∷ calls) → P calls → P later
+noted_or_same (Ok done) P noted same with_it without = subst P (sym noted) with_it
+noted_or_same (Err why) P noted same with_it without = subst P (sym same) without
 
 pub wrote_follows : (calls : List Call) (at : ℕ) (is_done : Bool) (bytes : List ℕ)
     → Follows (Mixes at bytes) (left_after calls) (left_after ((Wrote at is_done, bytes) ∷ calls))

@@ -1,5 +1,7 @@
 pub mod Calls
 pub mod Device
-pub mod Disk
 pub mod Laws
 pub mod Memory
+pub mod Noted
+pub mod Owed
+pub mod Relayed

@@ -2,7 +2,8 @@
 //!
 //! [`Device`] states the meaning of a file on a disk that finishes each byte that it begins. [`Memory`] meets it in
 //! memory, which tests use, and [`Disk`] over `std::fs`. A file is read once, in pieces, before it is written
-//! ([`Unread`]). Another file can take its place at once ([`Replace`]).
+//! ([`Unread`]). Another file can take its place at once ([`Replace`]). Where no call can reach the disk, as in a library
+//! without a runtime, [`Relayed`] notes each call and owes it to the owner of the file, who makes it.
 //!
 //! ```text
 //! let mut unread = open(&rt, "hlr.journal")?;      // makes the file if there is none, and locks it
@@ -18,14 +19,19 @@ mod device;
 mod disk;
 mod fault;
 mod memory;
+mod noted;
 mod opening;
 mod record;
+mod relayed;
 
 pub use device::{Device, Replace, Unread};
-pub use disk::{Disk, UnreadDisk};
+pub use disk::{Disk, NamedFile, UnreadDisk};
 pub use fault::JournalFault;
 pub use memory::{Memory, UnreadMemory};
+pub use noted::{Noted, SystemFile, UnreadNoted};
 pub use opening::{open, open_next};
+pub use record::Step;
+pub use relayed::{Owed, Relayed};
 
 #[cfg(test)]
 mod tests;

@@ -1,17 +1,15 @@
 //! Opens, makes and locks files. A lock belongs to an open file, so the system lets it go when a process ends, and no
 //! lock is ever stale.
 ghost use Rattle.std.specs.Prelude.{◌≡◌, [], IfOk};
-ghost use Rattle.journal_file.specs.Disk.{disk_read};
+ghost use Rattle.journal_file.specs.Noted.{noted_read};
 
-use crate::disk::{Place, write_zeros};
-use crate::{Disk, JournalFault, UnreadDisk};
+use crate::JournalFault;
+use crate::disk::{Disk, NamedFile, Place, UnreadDisk};
+use crate::noted::{ROOM, UnreadNoted, write_zeros};
 use std::fs::{self, File, OpenOptions, TryLockError};
 use std::io::{self, ErrorKind};
 use std::os::unix::fs::MetadataExt;
 use std::path::PathBuf;
-
-/// The count of zeros that a new file is made of.
-const ROOM: usize = 1 << 16;
 
 impl From<io::Error> for JournalFault {
     fn from(error: io::Error) -> Self {
@@ -26,26 +24,26 @@ impl From<io::Error> for JournalFault {
 /// [`open_next`] left in its folder is removed. Gives up with `Locked` if another handle has the file, with `NoJournal`
 /// if it is no regular file, and with `Memory` or `Failed`.
 pub fn open(runtime: &HostRuntime, path: &str) -> Result<UnreadDisk, JournalFault>
-    ensures read { IfOk result (λ unread. disk_read unread ≡ []) }
+    ensures read { IfOk result (λ unread. noted_read unread ≡ []) }
 {
     let place = place_of(runtime, find_or_make(runtime, path)?)?;
     let file = open_locked(&place)?;
     let _ = fs::remove_file(runtime, next_path(&place)?.as_str());
     file.sync_all()?;
     place.folder.sync_all()?;
-    Ok(UnreadDisk::new(file, place))
+    Ok(UnreadNoted::new(NamedFile { file, place }))
 }
 
 /// Makes a file of zeros in the folder of another one, under its name with `.next` behind it, so that it can take the
 /// other's place. Gives up as [`open`] does.
 pub fn open_next(file: &Disk) -> Result<UnreadDisk, JournalFault>
-    ensures read { IfOk result (λ unread. disk_read unread ≡ []) }
+    ensures read { IfOk result (λ unread. noted_read unread ≡ []) }
 {
-    let place = file.place();
+    let place = &file.file.place;
     let path = next_path(place)?;
-    let next = make_blank(&place.runtime, path.as_str())?;
+    let file = make_blank(&place.runtime, path.as_str())?;
     let place = place_of(&place.runtime, path)?;
-    Ok(UnreadDisk::new(next, place))
+    Ok(UnreadNoted::new(NamedFile { file, place }))
 }
 
 fn next_path(place: &Place) -> Result<PathBuf, JournalFault> {
@@ -93,10 +91,11 @@ fn make_blank(runtime: &HostRuntime, path: &str) -> Result<File, JournalFault> {
     Ok(file)
 }
 
-fn fill(file: &File) -> io::Result<()> {
+fn fill(file: &File) -> Result<(), JournalFault> {
     file.set_len(0)?;
     write_zeros(file, 0, ROOM)?;
-    file.sync_all()
+    file.sync_all()?;
+    Ok(())
 }
 
 fn open_or_create(runtime: &HostRuntime, path: &str) -> io::Result<File> {

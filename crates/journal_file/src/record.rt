@@ -43,4 +43,11 @@ impl Record {
     {
         Record {}
     }
+
+    /// Returns the same list.
+    pub(crate) fn copy(_of: &Record) -> Record
+        ensures { result.calls ≡ _of.now.calls }
+    {
+        Record {}
+    }
 }

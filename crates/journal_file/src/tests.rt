@@ -40,3 +40,53 @@ fn a_file_is_made_with_zeros_and_locked(rt: HostRuntime) -> Result<(), Fail> {
     fs::remove_dir_all(&rt, FOLDER)?;
     Ok(())
 }
+
+#[test]
+fn an_owner_is_handed_each_call_in_order(rt: HostRuntime) -> Result<(), Fail> {
+    let mut file = Relayed::new(rt.alloc(), 3, b"one\n");
+    file.reserve(2)?;
+    file.write_at(2, b"xy")?;
+    file.blank(0)?;
+    file.grow(8)?;
+    file.sync()?;
+    assert_eq!(rt; file.fd(), 3);
+    assert_eq!(rt; file.owed().len(), 4);
+    let [write, blank, grow, sync] = file.owed() else {
+        return Ok(());
+    };
+    assert!(rt;
+        matches!(
+            write.step,
+            Step::Wrote {
+                at: 2,
+                is_done: true
+            }
+        )
+    );
+    assert_eq!(rt; (write.from, write.to), (2, 4));
+    assert_eq!(rt; write.bytes.as_slice(), b"xy".as_slice());
+    assert!(rt;
+        matches!(
+            blank.step,
+            Step::Blanked {
+                from: 0,
+                is_done: true
+            }
+        )
+    );
+    assert_eq!(rt; (blank.from, blank.to), (0, 4));
+    assert!(rt;
+        matches!(
+            grow.step,
+            Step::Grew {
+                more: 8,
+                is_done: true
+            }
+        )
+    );
+    assert_eq!(rt; (grow.from, grow.to), (4, 12));
+    assert!(rt; matches!(sync.step, Step::Synced { is_done: true }));
+    file.note_made();
+    assert!(rt; file.owed().is_empty());
+    Ok(())
+}
