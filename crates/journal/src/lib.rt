@@ -6,7 +6,7 @@
 //! front of it. A last line that has no line feed doesn't count. Hence there is no checksum and no length to trust.
 //!
 //! A [`Tape`] is a file with such a text. A [`Machine`] is any state that lines lead on from, and [`replay`] runs the
-//! lines of a file through it, one piece of the file after another.
+//! lines of a file through it, one piece of the file after another. [`replay_bytes`] does so with all bytes at once.
 //!
 //! ```text
 //! let mut unread = journal_file::open(&rt, "hlr.journal")?;
@@ -30,11 +30,12 @@ mod tests;
 
 pub use compacting::compact;
 pub use machine::Machine;
-pub use reading::replay;
+pub use reading::{replay, replay_bytes};
 pub use scan::is_group;
 pub use tape::{Ends, Tape};
 
 // The types that the calls take and return, so that a caller needs no other crate.
 pub use journal_file::{
-    Device, Disk, JournalFault, Memory, Replace, Unread, UnreadDisk, UnreadMemory, open, open_next,
+    Device, Disk, JournalFault, Memory, Owed, Relayed, Replace, Step, Unread, UnreadDisk,
+    UnreadMemory, open, open_next,
 };

@@ -10,7 +10,7 @@ use journal_file::{JournalFault, Unread};
 use std::alloc::Global;
 
 /// The bytes of a piece. No more of the file is in memory at a time, apart from a line that has begun.
-const PIECE: usize = 1 << 16;
+const PIECE: usize = 1 << 14;
 
 const MAX_LEN: usize = 1 << 62;
 
@@ -38,4 +38,24 @@ pub fn replay<U: Unread, M: Machine>(
         follower.follow(machine, &piece[..n])?;
     }
     Err(JournalFault::Full)
+}
+
+/// Does what [`replay`] does, with a file all of whose bytes are at hand. Gives up with `Full` from 2^62 bytes on, and as
+/// the machine does.
+pub fn replay_bytes<M: Machine>(
+    alloc: Global,
+    bytes: &[u8],
+    machine: &mut M,
+) -> Result<Ends, JournalFault>
+    requires ready { M.IsReady machine.old }
+    ensures ready { OnOk result (M.IsReady machine.new) }
+    ensures ends { IfOk result (λ ends. AreEnds bytes.now ends) }
+    ensures runs { OnOk result (Runs M.moves (recovered bytes.now) machine.old machine.new) }
+{
+    if bytes.len() >= MAX_LEN {
+        return Err(JournalFault::Full);
+    }
+    let mut follower = Follower::new(alloc);
+    follower.follow(machine, bytes)?;
+    Ok(follower.ends)
 }

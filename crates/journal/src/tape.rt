@@ -59,6 +59,7 @@ impl<D: Device> Tape<D> {
         ensures whole { OnOk result (IsWhole (text (D.seen self.new.device))) }
         ensures is_open { OnOk result (IsOpen D.seen D.may_leave self.new) }
         ensures acknowledged { OnOk result (self.new.synced ≡ self.new.end) }
+        ensures fenced { OnOk result (HasFence (D.seen self.old.device)) }
 
         ensures any_moment { LeavesOnly D.moment D.left_since self.old.device self.new.device
             (λ c. recovered c ≡ recovered (D.seen self.old.device)) }

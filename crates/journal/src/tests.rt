@@ -58,6 +58,18 @@ fn a_torn_line_is_dropped(rt: HostRuntime) -> Result<(), Fail> {
 }
 
 #[test]
+fn bytes_at_hand_are_replayed(rt: HostRuntime) -> Result<(), Fail> {
+    let alloc = rt.alloc();
+    let mut lines = Lines {
+        bytes: Vec::new(alloc),
+    };
+    let ends = replay_bytes(alloc, b"one\ntw\0o\n\0\0\0", &mut lines)?;
+    assert_eq!(rt; lines.bytes.as_slice(), b"one\n".as_slice());
+    assert_eq!(rt; (ends.whole, ends.text, ends.len), (4, 6, 12));
+    Ok(())
+}
+
+#[test]
 fn a_text_with_no_fence_is_no_journal(rt: HostRuntime) -> Result<(), Fail> {
     let alloc = rt.alloc();
     let answer = in_memory(alloc, b"one\n".to_vec(alloc)?);

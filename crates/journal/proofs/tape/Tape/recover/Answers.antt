@@ -1,4 +1,4 @@
-use Rattle.std.proofs.Common.{◌≡◌, ◌<◌, ◌∙◌, ap, sym, subst, refl, arith}
+use Rattle.std.proofs.Common.{◌≡◌, ◌<◌, ◌∙◌, ap, sym, subst, refl, arith, length}
 use Rattle.journal.specs.Lines.{text, lines, recovered, HasFence, IsWhole}
 use Rattle.journal.proofs.FadeLemmas.{faded_fence}
 use Rattle.journal.proofs.OpenLemmas.{blank_same, blanked_text, blanked_open}
@@ -59,6 +59,13 @@ returns-clause-is_open g c =
     let fence : c.args.ends.whole < c.args.ends.len = omega (arith, ends.order, ends.at_text, ends.at_end, length-text file, c.if-ends.false) in
     blanked_open file c.args.ends ends g.D.Device.seen g.D.Device.may_leave c.blank.new.self c.sync.new.self fence
     c.in_ok-blank.ensures.blanked c.sync.ensures.seen c.in_ok-sync.ensures.durable
+
+pub returns-clause-fenced : goal.returns-clause-fenced
+returns-clause-fenced g c =
+    let file = g.D.Device.seen c.args.self.now.device in
+    let ends = c.requires.ends in
+    let fence : length (text file) < length file = omega (arith, ends.order, ends.at_text, ends.at_end, length-text file, c.if-ends.false) in
+    fence
 
 pub returns-clause-any_moment : goal.returns-clause-any_moment
 returns-clause-any_moment g c =

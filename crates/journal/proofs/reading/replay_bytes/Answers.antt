@@ -1,0 +1,15 @@
+use Rattle.std.proofs.Common.{[], rules}
+use Rattle.journal.specs.Inside.{IsFollowed}
+use Rattle.journal.proofs.reading.replay_bytes.Goals as goal
+
+-- all bytes were read by one piece
+followed : (g : _) (c : goal.After-drop-follower-2 g) → IsFollowed g.M.Machine.moves c.args.bytes.now c.args.machine.now c.follow.new.machine c.follow.new.self
+followed g c =
+    let none : IsFollowed g.M.Machine.moves [] c.args.machine.now c.args.machine.now c.new-follower.result = search rules in
+    c.in_ok-follow.ensures.follows [] c.args.machine.now none
+
+pub returns-clause-ends : goal.returns-clause-ends
+returns-clause-ends g c = (followed g c).ends
+
+pub returns-clause-runs : goal.returns-clause-runs
+returns-clause-runs g c = (followed g c).run
