@@ -121,7 +121,7 @@ pub event_joins : {D : Type 0} (seen : D → List ℕ) (may_leave : D → List �
     → IsStep event (store_in before.register) told (store_in after.register)
     → ((stored : Store) (orders : List Order) (answers : List Answer) → IsUnderWay seen may_leave stored orders answers before
     → IsUnderWay seen may_leave stored (orders ++ order.Event event ∷ []) (answers ++ answer.Reply told ∷ []) after)
-    → after.tape ≡ before.tape → new ≡ old ++ reply_line told → JoinsAnswer seen may_leave fields (Ok (command.Ask event)) before after old new
+    → after.journal.tape ≡ before.journal.tape → new ≡ old ++ reply_line told → JoinsAnswer seen may_leave fields (Ok (command.Ask event)) before after old new
 event_joins seen may_leave fields event told before after old new step ahead same grew =
     record { text = reply_line told; answer = record { reply = told; right = step; line = refl }; grew = grew; joins = ahead; tape = same }
 
@@ -132,7 +132,7 @@ pub record RecutJoins {D : Type 0} (seen : D → List ℕ) (may_leave : D → Li
   pub grew : new ≡ old ++ text
   pub joins : (stored : Store) (orders : List Order) (answers : List Answer) → IsUnderWay seen may_leave stored orders answers before
       → IsUnderWay seen may_leave stored (orders ++ recut_order bounds) (answers ++ recut_answer_in bounds (store_in before.register) text (store_in after.register) answer) after
-  pub tape : after.tape ≡ before.tape
+  pub tape : after.journal.tape ≡ before.journal.tape
 
 pub recut_joins : {D : Type 0} (seen : D → List ℕ) (may_leave : D → List ℕ → Type 0) (fields : List (List ℕ)) (bounds : Result (ArrayVec ℕ) Refusal) (before after : Journaled D) (old new : List ℕ)
     → bounds ≡ bounds_of fields → RecutJoins seen may_leave bounds before after old new → JoinsAnswer seen may_leave fields (Ok command.Recut) before after old new
@@ -141,13 +141,13 @@ recut_joins seen may_leave fields bounds before after old new is was =
     record { text = joins.text; answer = joins.answer; grew = joins.grew; joins = joins.joins; tape = joins.tape }
 
 pub recut_done : {D : Type 0} (seen : D → List ℕ) (may_leave : D → List ℕ → Type 0) (bounds : ArrayVec ℕ) (done : Result ℕ Refusal) (before after : Journaled D) (old new : List ℕ)
-    → IsRecut bounds.items (store_in before.register) done (store_in after.register) → after.tape ≡ before.tape → after.group.items ≡ before.group.items → after.fault ≡ before.fault
+    → IsRecut bounds.items (store_in before.register) done (store_in after.register) → after.journal.tape ≡ before.journal.tape → after.journal.group.items ≡ before.journal.group.items → after.journal.fault ≡ before.journal.fault
     → new ≡ old ++ recut_line done → RecutJoins seen may_leave (Ok bounds) before after old new
 recut_done seen may_leave bounds done before after old new right tape group works grew = record {
   text = recut_line done;
   answer = record { answer = done; right = right; line = refl };
   grew = grew;
-  joins = carried seen may_leave before after (order.Recut bounds) (answer.Recut done) tape works right (λ e. absurd (false≢true e)) (group ∙ sym (append-nil before.group.items));
+  joins = carried seen may_leave before after (order.Recut bounds) (answer.Recut done) tape works right (λ e. absurd (false≢true e)) (group ∙ sym (append-nil before.journal.group.items));
   tape = tape;
 }
 
@@ -198,7 +198,7 @@ module _ {D : Type 0} (seen : D → List ℕ) (may_leave : D → List ℕ → Ty
             let many : length (kept_told ++ told) ≡ length (kept ++ orders_of was.held) =
             length-append kept_told told ∙ ap (λ n. n + length told) (many_answers was.kept start was.stored was.told was.on_disk)
             ∙ ap (λ n. length kept + n) (many_answers was.held was.stored (store_in before.register) was.text was.waiting) ∙ sym (length-append kept (orders_of was.held)) in
-            weaker moment left_since first after.tape.device (StandsFor start (kept ++ orders_of was.held) (kept_told ++ told))
+            weaker moment left_since first after.journal.tape.device (StandsFor start (kept ++ orders_of was.held) (kept_told ++ told))
             (StandsFor start (kept ++ orders_of (was.held ++ fields ∷ [])) (kept_told ++ answers_in (was.held ++ fields ∷ []) was.stored (was.text ++ (more.text ++ [])) (store_in after.register) all.0))
             (subst (λ (t : D). LeavesOnly moment left_since first t (StandsFor start (kept ++ orders_of was.held) (kept_told ++ told))) (sym (ap (λ (t : Tape D). t.device) more.tape)) was.leaves)
             (λ c stands.
@@ -231,14 +231,14 @@ module _ {D : Type 0} (seen : D → List ℕ) (may_leave : D → List ℕ → Ty
         under_way = subst (λ (a : List Answer). IsUnderWay seen may_leave was.stored held a after) (sym waits.1)
             (unchanged_under_way seen may_leave was.stored held told before after same was.under_way);
         leaves =
-            weaker moment left_since first after.tape.device _ _
+            weaker moment left_since first after.journal.tape.device _ _
             (subst (λ (t : D). LeavesOnly moment left_since first t (StandsFor start (orders_of was.kept ++ held) (answers_in was.kept start was.told was.stored was.on_disk ++ told))) (sym (ap (λ (t : Tape D). t.device) same.tape)) was.leaves)
             (λ c stands. stands_as start _ _ _ _ c refl (ap (λ (a : List Answer). answers_in was.kept start was.told was.stored was.on_disk ++ a) waits.1) stands);
       }
 
   module _ (rows : List (List (List ℕ))) (start : Store) (first : D) (before after : Journaled D) (old new : Outgoing)
       (was : AreKept seen may_leave moment left_since rows start first before old new)
-      (left : LeavesOnly moment left_since before.tape.device after.tape.device
+      (left : LeavesOnly moment left_since before.journal.tape.device after.journal.tape.device
       (StandsFor was.stored (orders_of was.held) (answers_in was.held was.stored was.text (store_in before.register) was.waiting))) where
     both : List Answer
     both = answers_in was.kept start was.told was.stored was.on_disk ++ answers_in was.held was.stored was.text (store_in before.register) was.waiting
@@ -252,13 +252,13 @@ module _ {D : Type 0} (seen : D → List ℕ) (may_leave : D → List ℕ → Ty
         (records_joined was.kept was.held start was.stored (store_in before.register) was.told was.text was.on_disk was.waiting)
 
     -- and what a crash leaves
-    all_left : (answers : List Answer) → answers ≡ both → LeavesOnly moment left_since first after.tape.device (StandsFor start (orders_of rows) answers)
+    all_left : (answers : List Answer) → answers ≡ both → LeavesOnly moment left_since first after.journal.tape.device (StandsFor start (orders_of rows) answers)
     unfolding both
     all_left answers alike =
         let orders : orders_of rows ≡ orders_of was.kept ++ orders_of was.held = ap orders_of was.all ∙ orders_joined was.kept was.held in
-        weaker moment left_since first after.tape.device (StandsFor start (orders_of was.kept ++ orders_of was.held) both) (StandsFor start (orders_of rows) answers)
-        (joined moment left_since first before.tape.device after.tape.device _ was.leaves
-        (weaker moment left_since before.tape.device after.tape.device _ _ left
+        weaker moment left_since first after.journal.tape.device (StandsFor start (orders_of was.kept ++ orders_of was.held) both) (StandsFor start (orders_of rows) answers)
+        (joined moment left_since first before.journal.tape.device after.journal.tape.device _ was.leaves
+        (weaker moment left_since before.journal.tape.device after.journal.tape.device _ _ left
         (λ c stands. (stands.0, some_behind (orders_of was.kept) (answers_in was.kept start was.told was.stored was.on_disk) start was.stored _ _ c (records_run was.kept start was.told was.stored was.on_disk) stands.1))))
         (λ c stands. stands_as start _ _ _ _ c orders alike stands)
 
@@ -275,7 +275,7 @@ module _ {D : Type 0} (seen : D → List ℕ) (may_leave : D → List ℕ → Ty
         }
 
     -- or the journal failed
-    pub kept_cut : (stopped : Bool) → stopped ≡ true → AreCutOff moment left_since rows start first after.tape.device old new stopped
+    pub kept_cut : (stopped : Bool) → stopped ≡ true → AreCutOff moment left_since rows start first after.journal.tape.device old new stopped
     kept_cut stopped failed =
         let told = all_told (store_in before.register) refl in
         record {
@@ -289,19 +289,19 @@ module _ {D : Type 0} (seen : D → List ℕ) (may_leave : D → List ℕ → Ty
 
   -- a sync that ended well leaves the rows of the register on the disk
   pub synced_disk : (before after : Journaled D) (done : Result (Unit {0}) JournalFault) → done ≡ Ok tt → IsReady seen may_leave before
-      → IfSome before.fault (λ why. (done ≡ Err why) × (after.fault ≡ Some why))
+      → IfSome before.journal.fault (λ why. (done ≡ Err why) × (after.journal.fault ≡ Some why))
       → ((stored : Store) (orders : List Order) (answers : List Answer) → IsUnderWay seen may_leave stored orders answers before → IsUnderWay seen may_leave (store_in after.register) [] [] after)
-      → IsOnDisk seen may_leave (store_in after.register) after.tape
-  synced_disk before after done well ready stays settled = by before.fault refl stays
+      → IsOnDisk seen may_leave (store_in after.register) after.journal.tape
+  synced_disk before after done well ready stays settled = by before.journal.fault refl stays
     where
-      by : (o : Option JournalFault) → before.fault ≡ o → IfSome o (λ why. (done ≡ Err why) × (after.fault ≡ Some why)) → IsOnDisk seen may_leave (store_in after.register) after.tape
+      by : (o : Option JournalFault) → before.journal.fault ≡ o → IfSome o (λ why. (done ≡ Err why) × (after.journal.fault ≡ Some why)) → IsOnDisk seen may_leave (store_in after.register) after.journal.tape
       by None works stays = let some = ready.under_way works in (settled some.0 some.1 some.2 some.3).disk
       by (Some why) broken stays = absurd (let clash : Ok tt ≡ Err why = sym well ∙ stays.0 in cc)
 
   -- the line of records that are on the disk is handed on
   pub synced_handed : (rows : List (List (List ℕ))) (start : Store) (first : D) (now : Journaled D) (old mid new : Outgoing) (stalled : Bool) (r : Result (Unit {0}) Stalled)
       → AreSynced seen may_leave moment left_since rows start first now old mid → Adds [] mid new stalled r
-      → MatchResult r (λ done. AreSynced seen may_leave moment left_since rows start first now old new) (λ why. AreCutOff moment left_since rows start first now.tape.device old new (has_stopped stalled now.fault))
+      → MatchResult r (λ done. AreSynced seen may_leave moment left_since rows start first now old new) (λ why. AreCutOff moment left_since rows start first now.journal.tape.device old new (has_stopped stalled now.journal.fault))
   synced_handed rows start first now old mid new stalled (Ok done) was put = record {
     text = was.text;
     on_disk = was.on_disk;
@@ -337,7 +337,7 @@ module _ {D : Type 0} (seen : D → List ℕ) (may_leave : D → List ℕ → Ty
         grew = was.grew;
         under_way = subst (λ (a : List Answer). IsUnderWay seen may_leave (store_in now.register) [] a now) (sym none.1) was.under_way;
         leaves =
-            weaker moment left_since first now.tape.device (StandsFor start (orders_of rows) (answers_in rows start was.text (store_in now.register) was.on_disk)) _ was.leaves
+            weaker moment left_since first now.journal.tape.device (StandsFor start (orders_of rows) (answers_in rows start was.text (store_in now.register) was.on_disk)) _ was.leaves
             (λ c stands.
             stands_as start _ _ _ _ c (append-nil (orders_of rows))
             (ap (λ (a : List Answer). answers_in rows start was.text (store_in now.register) was.on_disk ++ a) none.1 ∙ append-nil (answers_in rows start was.text (store_in now.register) was.on_disk)) stands);
@@ -347,12 +347,12 @@ module _ {D : Type 0} (seen : D → List ℕ) (may_leave : D → List ℕ → Ty
   module _ (rows : List (List (List ℕ))) (fields : List (List ℕ)) (start : Store) (first : D) (now : Journaled D) (old mid new : Outgoing) (stalled : Bool) (r : Result (Unit {0}) Stalled)
       (was : AreSynced seen may_leave moment left_since rows start first now old mid) (more : Answers fields (store_in now.register) (store_in now.register) mid new stalled r) where
     more_told : (told : RecordsText (rows ++ fields ∷ []) start (was.text ++ (more.text ++ [])) (store_in now.register))
-        × LeavesOnly moment left_since first now.tape.device (StandsFor start (orders_of (rows ++ fields ∷ [])) (answers_in (rows ++ fields ∷ []) start (was.text ++ (more.text ++ [])) (store_in now.register) told))
+        × LeavesOnly moment left_since first now.journal.tape.device (StandsFor start (orders_of (rows ++ fields ∷ [])) (answers_in (rows ++ fields ∷ []) start (was.text ++ (more.text ++ [])) (store_in now.register) told))
     more_told =
         let one = one_record fields (store_in now.register) (store_in now.register) more.text more.answer in
         let all = records_joined rows (fields ∷ []) start (store_in now.register) (store_in now.register) was.text (more.text ++ []) was.on_disk one.0 in (
           all.0,
-          weaker moment left_since first now.tape.device _ _ was.leaves
+          weaker moment left_since first now.journal.tape.device _ _ was.leaves
               (λ c stands.
               stands_as start _ _ _ _ c (orders_joined rows (fields ∷ [])) all.1
               (stands_wider start (orders_of rows) (orders_of (fields ∷ [])) (answers_in rows start was.text (store_in now.register) was.on_disk) _ c (many_answers rows start (store_in now.register) was.text was.on_disk) stands)),
@@ -361,7 +361,7 @@ module _ {D : Type 0} (seen : D → List ℕ) (may_leave : D → List ℕ → Ty
   pub report_kept : (rows : List (List (List ℕ))) (fields : List (List ℕ)) (start : Store) (first : D) (now : Journaled D) (old mid new : Outgoing) (stalled : Bool) (done : Result (Unit {0}) Stalled) (r : Result (Unit {0}) Fault)
       → AreSynced seen may_leave moment left_since rows start first now old mid → Answers fields (store_in now.register) (store_in now.register) mid new stalled done
       → MatchResult done (λ unit. r ≡ Ok unit) (λ why. r ≡ Err fault.Write)
-      → HasKept seen may_leave moment left_since rows fields start first now old new (has_stopped stalled now.fault) r
+      → HasKept seen may_leave moment left_since rows fields start first now old new (has_stopped stalled now.journal.fault) r
   report_kept rows fields start first now old mid new stalled (Ok done) r was more is =
       let all = more_told rows fields start first now old mid new stalled (Ok done) was more in
       rw is
@@ -386,7 +386,7 @@ module _ {D : Type 0} (seen : D → List ℕ) (may_leave : D → List ℕ → Ty
 
   -- a record is answered, and then the line is handed on
   pub handed_kept : (rows : List (List (List ℕ))) (fields : List (List ℕ)) (start : Store) (first : D) (now : Journaled D) (old new : Outgoing) (stopped : Bool) (done : Result (Unit {0}) Stalled) (r : Result (Unit {0}) Fault)
-      → MatchResult done (λ unit. AreSynced seen may_leave moment left_since (rows ++ fields ∷ []) start first now old new) (λ why. AreCutOff moment left_since (rows ++ fields ∷ []) start first now.tape.device old new stopped)
+      → MatchResult done (λ unit. AreSynced seen may_leave moment left_since (rows ++ fields ∷ []) start first now old new) (λ why. AreCutOff moment left_since (rows ++ fields ∷ []) start first now.journal.tape.device old new stopped)
       → MatchResult done (λ unit. r ≡ Ok unit) (λ why. r ≡ Err fault.Write)
       → HasKept seen may_leave moment left_since rows fields start first now old new stopped r
   handed_kept rows fields start first now old new stopped (Ok done) r was is = rw is (synced_kept (rows ++ fields ∷ []) start first now old new was)
@@ -394,7 +394,7 @@ module _ {D : Type 0} (seen : D → List ℕ) (may_leave : D → List ℕ → Ty
 
   -- no record is answered yet
   module _ (only_now : (d : D) (c : List ℕ) → left_since d (moment d) c → may_leave d c) (now : Journaled D) (under : IsUnderWay seen may_leave (store_in now.register) [] [] now) where
-    pub synced_begun : (old : Outgoing) → AreSynced seen may_leave moment left_since [] (store_in now.register) now.tape.device now old old
+    pub synced_begun : (old : Outgoing) → AreSynced seen may_leave moment left_since [] (store_in now.register) now.journal.tape.device now old old
     synced_begun old =
         let none = no_records (store_in now.register) in
         record {
@@ -402,7 +402,7 @@ module _ {D : Type 0} (seen : D → List ℕ) (may_leave : D → List ℕ → Ty
           on_disk = none.0;
           grew = adds_none old;
           under_way = under;
-          leaves = stands_now seen may_leave moment left_since only_now (store_in now.register) [] (answers_in [] (store_in now.register) [] (store_in now.register) none.0) now.tape under.disk;
+          leaves = stands_now seen may_leave moment left_since only_now (store_in now.register) [] (answers_in [] (store_in now.register) [] (store_in now.register) none.0) now.journal.tape under.disk;
         }
 
   -- an event is answered behind records, or there is no memory for its line
@@ -554,12 +554,12 @@ module _ {D : Type 0} (seen : D → List ℕ) (may_leave : D → List ℕ → Ty
 -- no record is read yet
 pub begun_kept : {D : Type 0} (seen : D → List ℕ) (may_leave : D → List ℕ → Type 0) (moment : D → ℕ) (left_since : D → ℕ → List ℕ → Type 0)
     (only_now : (d : D) (c : List ℕ) → left_since d (moment d) c → may_leave d c) (now : Journaled D) (unread : Unread) (old : Outgoing) → IsUnderWay seen may_leave (store_in now.register) [] [] now
-    → unread.state ≡ st.StartRecord → SoFarKept seen may_leave moment left_since (store_in now.register) now.tape.device unread.bytes unread now old old 0
+    → unread.state ≡ st.StartRecord → SoFarKept seen may_leave moment left_since (store_in now.register) now.journal.tape.device unread.bytes unread now old old 0
 begun_kept seen may_leave moment left_since only_now now unread old under at_start = record {
   rows = [];
   many = refl;
   read = if_known unread.bytes _ (λ bytes is. read_none bytes unread is at_start);
-  kept = synced_kept seen may_leave moment left_since [] (store_in now.register) now.tape.device now old old (synced_begun seen may_leave moment left_since only_now now under old);
+  kept = synced_kept seen may_leave moment left_since [] (store_in now.register) now.journal.tape.device now old old (synced_begun seen may_leave moment left_since only_now now under old);
 }
 
 -- a record that ended a run was no option out of range and no start of a thread, and where the sink or the journal failed it is told
@@ -654,7 +654,7 @@ module _ {D : Type 0} (moment : D → ℕ) (left_since : D → ℕ → List ℕ 
   }
 
   -- or all is handed on
-  pub ran_synced : (seen : D → List ℕ) (may_leave : D → List ℕ → Type 0) (rows : List (List (List ℕ))) (now : Journaled D) (old new : Outgoing) (r : Result (Unit {0}) Fault) → now.tape.device ≡ last
+  pub ran_synced : (seen : D → List ℕ) (may_leave : D → List ℕ → Type 0) (rows : List (List (List ℕ))) (now : Journaled D) (old new : Outgoing) (r : Result (Unit {0}) Fault) → now.journal.tape.device ≡ last
       → old.line ≡ [] → new.line ≡ [] → (r ≡ Err fault.Write → ⊥) → length rows ≤ RECORDS
       → IfSome known (λ bytes. AreReadBy (stops bytes) bytes rows r) → AreSynced seen may_leave moment left_since rows start first now old new
       → RanJournaled moment left_since stops known start first last old.taken new.taken r
@@ -685,10 +685,10 @@ module _ {D : Type 0} (moment : D → ℕ) (left_since : D → ℕ → List ℕ 
 -- nothing is read
 pub ran_none : {D : Type 0} (seen : D → List ℕ) (may_leave : D → List ℕ → Type 0) (moment : D → ℕ) (left_since : D → ℕ → List ℕ → Type 0)
     (only_now : (d : D) (c : List ℕ) → left_since d (moment d) c → may_leave d c) (now : Journaled D) (known : Option (List ℕ)) (old : Option (List ℕ)) → IsUnderWay seen may_leave (store_in now.register) [] [] now
-    → RanJournaled moment left_since IsStop known (store_in now.register) now.tape.device now.tape.device old old (Err fault.Memory)
+    → RanJournaled moment left_since IsStop known (store_in now.register) now.journal.tape.device now.journal.tape.device old old (Err fault.Memory)
 unfolding Reached
 ran_none seen may_leave moment left_since only_now now known old under =
-    ran_synced moment left_since IsStop known (store_in now.register) now.tape.device now.tape.device seen may_leave [] now (outgoing [] old) (outgoing [] old) (Err fault.Memory) refl refl refl (λ is. cc) (omega arith)
+    ran_synced moment left_since IsStop known (store_in now.register) now.journal.tape.device now.journal.tape.device seen may_leave [] now (outgoing [] old) (outgoing [] old) (Err fault.Memory) refl refl refl (λ is. cc) (omega arith)
     (if_known known _ (λ bytes is. (st.StartRecord, bytes, (refl, refl), λ other. tt)))
     (synced_begun seen may_leave moment left_since only_now now under (outgoing [] old))
 

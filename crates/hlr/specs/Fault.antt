@@ -36,7 +36,7 @@ read_fault_of (kind.Deserialize pos err) = Read
 abbrev pub opening_words : JournalFault → List ℕ
 opening_words journal.Memory = codes "no memory"
 opening_words journal.Failed = codes "read fault: the journal can't be made or read; see to its path, its rights and its disk"
-opening_words journal.Full = codes "read fault: the journal has more than 2^62 bytes"
+opening_words journal.Full = codes "read fault: the journal has more than 2^62 bytes; name another file"
 opening_words journal.Locked = codes "read fault: another process has the journal open; end that one first"
 opening_words journal.NoJournal = codes "read fault: the file is no journal; name another one, or restore a copy of it"
 opening_words journal.BadLine = codes "read fault: the journal is damaged or of another version; restore a copy of it"

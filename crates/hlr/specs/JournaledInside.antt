@@ -34,7 +34,7 @@ pub record JoinsAnswer {D : Type 0} (seen : D → List ℕ) (may_leave : D → L
       → IsUnderWay seen may_leave stored orders answers before
       → IsUnderWay seen may_leave stored (orders ++ order_of fields asked)
       (answers ++ answer_in fields asked (store_in before.register) text (store_in after.register) answer) after
-  pub tape : after.tape ≡ before.tape
+  pub tape : after.journal.tape ≡ before.journal.tape
 
 -- Records from a store on are answered. The first of them are on the disk, and what a sink took of the text is theirs;
 -- the others are under way, and their text waits in the line.
@@ -54,7 +54,7 @@ pub record AreKept {D : Type 0} (seen : D → List ℕ) (may_leave : D → List 
   pub grew : AddsWhole told old (outgoing unsent new.taken)
   pub under_way : IsUnderWay seen may_leave stored (orders_of held)
       (answers_in held stored text (store_in now.register) waiting) now
-  pub leaves : LeavesOnly moment left_since first now.tape.device
+  pub leaves : LeavesOnly moment left_since first now.journal.tape.device
       (StandsFor start (orders_of kept ++ orders_of held)
       (answers_in kept start told stored on_disk ++ answers_in held stored text (store_in now.register) waiting))
 
@@ -66,7 +66,7 @@ pub record AreSynced {D : Type 0} (seen : D → List ℕ) (may_leave : D → Lis
   pub on_disk : RecordsText rows start text (store_in now.register)
   pub grew : AddsWhole text old new
   pub under_way : IsUnderWay seen may_leave (store_in now.register) [] [] now
-  pub leaves : LeavesOnly moment left_since first now.tape.device
+  pub leaves : LeavesOnly moment left_since first now.journal.tape.device
       (StandsFor start (orders_of rows) (answers_in rows start text (store_in now.register) on_disk))
 
 -- records from a store on are answered, of whose text the sink took a front, and then it or the journal failed
@@ -88,7 +88,7 @@ Syncs {D} seen may_leave moment left_since before after taken new stopped r =
     (rows : List (List (List ℕ))) (start : Store) (first : D) (old : Outgoing)
     → AreKept seen may_leave moment left_since rows start first before old taken
     → MatchResult r (λ done. AreSynced seen may_leave moment left_since rows start first after old new)
-    (λ why. AreCutOff moment left_since rows start first after.tape.device old new stopped)
+    (λ why. AreCutOff moment left_since rows start first after.journal.tape.device old new stopped)
 
 -- behind records, one more is answered; the journal is as it was where there is no memory for the event that it asks for
 abbrev pub HasKept : {D : Type 0} (seen : D → List ℕ) (may_leave : D → List ℕ → Type 0) (moment : D → ℕ)
@@ -99,8 +99,8 @@ HasKept seen may_leave moment left_since rows fields start first now old new sto
 HasKept seen may_leave moment left_since rows fields start first now old new stopped (Err fault.Memory) =
     AreKept seen may_leave moment left_since rows start first now old new × AsksEvent fields
 HasKept seen may_leave moment left_since rows fields start first now old new stopped (Err fault.Write) =
-    AreCutOff moment left_since rows start first now.tape.device old new stopped
-    ⊎ AreCutOff moment left_since (rows ++ fields ∷ []) start first now.tape.device old new stopped
+    AreCutOff moment left_since rows start first now.journal.tape.device old new stopped
+    ⊎ AreCutOff moment left_since (rows ++ fields ∷ []) start first now.journal.tape.device old new stopped
 HasKept seen may_leave moment left_since rows fields start first now old new stopped (Err _) = ⊥
 
 -- whatever records are kept, one more is answered behind them
@@ -117,7 +117,7 @@ abbrev pub HasHeld : {D : Type 0} (seen : D → List ℕ) (may_leave : D → Lis
     (left_since : D → ℕ → List ℕ → Type 0) → List (List (List ℕ)) → Store → D → Journaled D → Outgoing → Outgoing → Bool
     → Result (Unit {0}) Fault → Type 0
 HasHeld seen may_leave moment left_since rows start first now old new stopped (Err fault.Write) =
-    AreCutOff moment left_since rows start first now.tape.device old new stopped
+    AreCutOff moment left_since rows start first now.journal.tape.device old new stopped
 HasHeld seen may_leave moment left_since rows start first now old new stopped _ =
     AreKept seen may_leave moment left_since rows start first now old new
 

@@ -78,7 +78,7 @@ pub fn opening_words(why: JournalFault) -> &'static str
         JournalFault::Failed => {
             "read fault: the journal can't be made or read; see to its path, its rights and its disk"
         }
-        JournalFault::Full => "read fault: the journal has more than 2^62 bytes",
+        JournalFault::Full => "read fault: the journal has more than 2^62 bytes; name another file",
         JournalFault::Locked =>
             "read fault: another process has the journal open; end that one first",
         JournalFault::NoJournal => {

@@ -42,9 +42,9 @@ fn sync<D: NextTape>(journaled: &mut Journaled<D>) -> Result<(), Stalled>
     requires ready { IsReady D.Device.seen D.Device.may_leave journaled.old }
     ensures ready { IsReady D.Device.seen D.Device.may_leave journaled.new }
     ensures register { journaled.new.register ≡ journaled.old.register }
-    ensures synced { (sent : Outgoing) (stalled : Bool) → Syncs D.Device.seen D.Device.may_leave D.Device.moment D.Device.left_since journaled.old journaled.new sent sent (has_stopped stalled journaled.new.fault) result }
+    ensures synced { (sent : Outgoing) (stalled : Bool) → Syncs D.Device.seen D.Device.may_leave D.Device.moment D.Device.left_since journaled.old journaled.new sent sent (has_stopped stalled journaled.new.journal.fault) result }
     // From an `Ok` on, the journal stands for the rows of the register.
-    ensures kept { OnOk result (IsOnDisk D.Device.seen D.Device.may_leave (store_in journaled.new.register) journaled.new.tape) }
+    ensures kept { OnOk result (IsOnDisk D.Device.seen D.Device.may_leave (store_in journaled.new.register) journaled.new.journal.tape) }
 {
     match journaled.sync_or_compact() {
         Ok(()) => Ok(()),
@@ -60,11 +60,11 @@ fn hand_on_synced<D: NextTape, S: Sink>(
 ) -> Result<(), Stalled>
     requires ready { IsReady D.Device.seen D.Device.may_leave journaled.old }
     ensures ready { IsReady D.Device.seen D.Device.may_leave journaled.new }
-    ensures text { Syncs D.Device.seen D.Device.may_leave D.Device.moment D.Device.left_since journaled.old journaled.new (outgoing line.old.items (S.taken sink.old)) (outgoing line.new.items (S.taken sink.new)) (has_stopped (S.has_stalled sink.new) journaled.new.fault) result }
+    ensures text { Syncs D.Device.seen D.Device.may_leave D.Device.moment D.Device.left_since journaled.old journaled.new (outgoing line.old.items (S.taken sink.old)) (outgoing line.new.items (S.taken sink.new)) (has_stopped (S.has_stalled sink.new) journaled.new.journal.fault) result }
     ensures empty { OnOk result (line.new.items ≡ []) }
     // Nothing is handed on, or the journal stands for the rows after all events that the replies tell of.
-    ensures kept { (sink.new ≡ sink.old) ⊎ IsOnDisk D.Device.seen D.Device.may_leave (store_in journaled.new.register) journaled.new.tape }
-    ensures done { OnOk result (IsOnDisk D.Device.seen D.Device.may_leave (store_in journaled.new.register) journaled.new.tape) }
+    ensures kept { (sink.new ≡ sink.old) ⊎ IsOnDisk D.Device.seen D.Device.may_leave (store_in journaled.new.register) journaled.new.journal.tape }
+    ensures done { OnOk result (IsOnDisk D.Device.seen D.Device.may_leave (store_in journaled.new.register) journaled.new.journal.tape) }
 {
     sync(journaled)?;
     hand_on(line, sink)
@@ -78,11 +78,11 @@ fn flush_synced<D: NextTape, S: Sink>(
 ) -> Result<(), Stalled>
     requires ready { IsReady D.Device.seen D.Device.may_leave journaled.old }
     ensures ready { IsReady D.Device.seen D.Device.may_leave journaled.new }
-    ensures text { Syncs D.Device.seen D.Device.may_leave D.Device.moment D.Device.left_since journaled.old journaled.new (outgoing line.old.items (S.taken sink.old)) (outgoing line.new.items (S.taken sink.new)) (has_stopped (S.has_stalled sink.new) journaled.new.fault) result }
+    ensures text { Syncs D.Device.seen D.Device.may_leave D.Device.moment D.Device.left_since journaled.old journaled.new (outgoing line.old.items (S.taken sink.old)) (outgoing line.new.items (S.taken sink.new)) (has_stopped (S.has_stalled sink.new) journaled.new.journal.fault) result }
     ensures empty { OnOk result (line.new.items ≡ []) }
     // Nothing is handed on, or the journal stands for the rows after all events that the replies tell of.
-    ensures kept { (sink.new ≡ sink.old) ⊎ IsOnDisk D.Device.seen D.Device.may_leave (store_in journaled.new.register) journaled.new.tape }
-    ensures done { OnOk result (IsOnDisk D.Device.seen D.Device.may_leave (store_in journaled.new.register) journaled.new.tape) }
+    ensures kept { (sink.new ≡ sink.old) ⊎ IsOnDisk D.Device.seen D.Device.may_leave (store_in journaled.new.register) journaled.new.journal.tape }
+    ensures done { OnOk result (IsOnDisk D.Device.seen D.Device.may_leave (store_in journaled.new.register) journaled.new.journal.tape) }
 {
     hand_on_synced(journaled, line, sink)?;
     flush_line(line, sink)
@@ -123,9 +123,9 @@ fn report<D: NextTape, S: Sink>(
     requires room { HasRoom line.old.items }
     ensures ready { IsReady D.Device.seen D.Device.may_leave journaled.new }
     ensures text { (r : Result (Unit {0}) Fault) → MatchResult result (λ unit. r ≡ Ok unit) (λ why. r ≡ Err fault.Write)
-        → KeepsNext D.Device.seen D.Device.may_leave D.Device.moment D.Device.left_since (fields_of row.now) journaled.old journaled.new (outgoing line.old.items (S.taken sink.old)) (outgoing line.new.items (S.taken sink.new)) (has_stopped (S.has_stalled sink.new) journaled.new.fault) r }
+        → KeepsNext D.Device.seen D.Device.may_leave D.Device.moment D.Device.left_since (fields_of row.now) journaled.old journaled.new (outgoing line.old.items (S.taken sink.old)) (outgoing line.new.items (S.taken sink.new)) (has_stopped (S.has_stalled sink.new) journaled.new.journal.fault) r }
     // Nothing is handed on, or the journal stands for the rows after all events that the replies tell of.
-    ensures kept { (sink.new ≡ sink.old) ⊎ IsOnDisk D.Device.seen D.Device.may_leave (store_in journaled.new.register) journaled.new.tape }
+    ensures kept { (sink.new ≡ sink.old) ⊎ IsOnDisk D.Device.seen D.Device.may_leave (store_in journaled.new.register) journaled.new.journal.tape }
 {
     hand_on_synced(journaled, line, sink)?;
     answer_report(report, row, journaled.register(), line, sink)
@@ -159,7 +159,7 @@ fn answer_word<D: NextTape, S: Sink>(
     requires ready { IsReady D.Device.seen D.Device.may_leave journaled.old }
     requires room { HasRoom line.old.items }
     ensures ready { IsReady D.Device.seen D.Device.may_leave journaled.new }
-    ensures text { KeepsNext D.Device.seen D.Device.may_leave D.Device.moment D.Device.left_since (fields_of row.now) journaled.old journaled.new (outgoing line.old.items (S.taken sink.old)) (outgoing line.new.items (S.taken sink.new)) (has_stopped (S.has_stalled sink.new) journaled.new.fault) result }
+    ensures text { KeepsNext D.Device.seen D.Device.may_leave D.Device.moment D.Device.left_since (fields_of row.now) journaled.old journaled.new (outgoing line.old.items (S.taken sink.old)) (outgoing line.new.items (S.taken sink.new)) (has_stopped (S.has_stalled sink.new) journaled.new.journal.fault) result }
 {
     match kind_of(word) {
         Kind::Event => match event_of(word, row) {
@@ -182,7 +182,7 @@ fn answer<D: NextTape, S: Sink>(
     requires ready { IsReady D.Device.seen D.Device.may_leave journaled.old }
     requires room { HasRoom line.old.items }
     ensures ready { IsReady D.Device.seen D.Device.may_leave journaled.new }
-    ensures text { KeepsNext D.Device.seen D.Device.may_leave D.Device.moment D.Device.left_since (fields_of row.now) journaled.old journaled.new (outgoing line.old.items (S.taken sink.old)) (outgoing line.new.items (S.taken sink.new)) (has_stopped (S.has_stalled sink.new) journaled.new.fault) result }
+    ensures text { KeepsNext D.Device.seen D.Device.may_leave D.Device.moment D.Device.left_since (fields_of row.now) journaled.old journaled.new (outgoing line.old.items (S.taken sink.old)) (outgoing line.new.items (S.taken sink.new)) (has_stopped (S.has_stalled sink.new) journaled.new.journal.fault) result }
 {
     match word_of(field(row, 0)) {
         Some(word) => answer_word(word, row, journaled, line, sink),
@@ -205,7 +205,7 @@ fn answer_in_time<T: Source, D: NextTape, S: Sink>(
     requires ready { IsReady D.Device.seen D.Device.may_leave journaled.old }
     requires room { HasRoom line.old.items }
     ensures ready { IsReady D.Device.seen D.Device.may_leave journaled.new }
-    ensures text { KeepsNext D.Device.seen D.Device.may_leave D.Device.moment D.Device.left_since (fields_of row.now) journaled.old journaled.new (outgoing line.old.items (S.taken sink.old)) (outgoing line.new.items (S.taken sink.new)) (has_stopped (S.has_stalled sink.new) journaled.new.fault) result }
+    ensures text { KeepsNext D.Device.seen D.Device.may_leave D.Device.moment D.Device.left_since (fields_of row.now) journaled.old journaled.new (outgoing line.old.items (S.taken sink.old)) (outgoing line.new.items (S.taken sink.new)) (has_stopped (S.has_stalled sink.new) journaled.new.journal.fault) result }
     ensures room { OnOk result (HasRoom line.new.items) }
 {
     answer(row, journaled, line, sink)?;
@@ -233,8 +233,8 @@ fn answer_records<T: Source, D: NextTape, S: Sink>(
     requires settled { IsUnderWay D.Device.seen D.Device.may_leave (store_in journaled.old.register) [] [] journaled.old }
     requires room { HasRoom line.old.items }
     ensures ready { IsReady D.Device.seen D.Device.may_leave journaled.new }
-    ensures text { HasComeKept D.Device.seen D.Device.may_leave D.Device.moment D.Device.left_since (λ bytes. StopsBehind T.seen true bytes source.new) (T.seen.unread source.old).bytes (store_in journaled.old.register) journaled.old.tape.device journaled.new (outgoing line.old.items (S.taken sink.old)) (outgoing line.new.items (S.taken sink.new)) (has_stopped (S.has_stalled sink.new) journaled.new.fault) result }
-    ensures write { result ≡ Err fault.Write → has_stopped (S.has_stalled sink.new) journaled.new.fault ≡ true }
+    ensures text { HasComeKept D.Device.seen D.Device.may_leave D.Device.moment D.Device.left_since (λ bytes. StopsBehind T.seen true bytes source.new) (T.seen.unread source.old).bytes (store_in journaled.old.register) journaled.old.journal.tape.device journaled.new (outgoing line.old.items (S.taken sink.old)) (outgoing line.new.items (S.taken sink.new)) (has_stopped (S.has_stalled sink.new) journaled.new.journal.fault) result }
+    ensures write { result ≡ Err fault.Write → has_stopped (S.has_stalled sink.new) journaled.new.journal.fault ≡ true }
     ensures field { result ≢ Err fault.Field }
     ensures thread { result ≢ Err fault.Thread }
 {
@@ -268,9 +268,9 @@ fn answer_all<T: Source, D: NextTape, S: Sink>(
     requires ready { IsReady D.Device.seen D.Device.may_leave journaled.old }
     requires settled { IsUnderWay D.Device.seen D.Device.may_leave (store_in journaled.old.register) [] [] journaled.old }
     ensures ready { IsReady D.Device.seen D.Device.may_leave journaled.new }
-    ensures text { RanJournaled D.Device.moment D.Device.left_since (λ bytes. StopsBehind T.seen true bytes source.new) (T.seen.unread source.old).bytes (store_in journaled.old.register) journaled.old.tape.device journaled.new.tape.device (S.taken sink.old) (S.taken sink.new) result }
-    ensures kept { result ≢ Err fault.Write → IsOnDisk D.Device.seen D.Device.may_leave (store_in journaled.new.register) journaled.new.tape }
-    ensures write { result ≡ Err fault.Write → has_stopped (S.has_stalled sink.new) journaled.new.fault ≡ true }
+    ensures text { RanJournaled D.Device.moment D.Device.left_since (λ bytes. StopsBehind T.seen true bytes source.new) (T.seen.unread source.old).bytes (store_in journaled.old.register) journaled.old.journal.tape.device journaled.new.journal.tape.device (S.taken sink.old) (S.taken sink.new) result }
+    ensures kept { result ≢ Err fault.Write → IsOnDisk D.Device.seen D.Device.may_leave (store_in journaled.new.register) journaled.new.journal.tape }
+    ensures write { result ≡ Err fault.Write → has_stopped (S.has_stalled sink.new) journaled.new.journal.fault ≡ true }
     ensures field { result ≢ Err fault.Field }
     ensures thread { result ≢ Err fault.Thread }
 {
@@ -304,10 +304,10 @@ pub fn run_journaled<R: Read + Drop, D: NextTape, S: Sink>(
     requires settled { IsUnderWay D.Device.seen D.Device.may_leave (store_in journaled.old.register) [] [] journaled.old }
     ensures ready { IsReady D.Device.seen D.Device.may_leave journaled.new }
     // Records are answered from the rows of the journal on. A crash at any moment leaves the rows after the first so many.
-    ensures text { RanJournaled D.Device.moment D.Device.left_since IsStop (option_map strip_bom (R.remaining reader)) (store_in journaled.old.register) journaled.old.tape.device journaled.new.tape.device (S.taken sink.old) (S.taken sink.new) result }
+    ensures text { RanJournaled D.Device.moment D.Device.left_since IsStop (option_map strip_bom (R.remaining reader)) (store_in journaled.old.register) journaled.old.journal.tape.device journaled.new.journal.tape.device (S.taken sink.old) (S.taken sink.new) result }
     // All rows of the register are on the disk then.
-    ensures kept { result ≢ Err fault.Write → IsOnDisk D.Device.seen D.Device.may_leave (store_in journaled.new.register) journaled.new.tape }
-    ensures write { result ≡ Err fault.Write → has_stopped (S.has_stalled sink.new) journaled.new.fault ≡ true }
+    ensures kept { result ≢ Err fault.Write → IsOnDisk D.Device.seen D.Device.may_leave (store_in journaled.new.register) journaled.new.journal.tape }
+    ensures write { result ≡ Err fault.Write → has_stopped (S.has_stalled sink.new) journaled.new.journal.fault ≡ true }
     ensures field { result ≢ Err fault.Field }
     ensures thread { result ≢ Err fault.Thread }
     ensures flushed { IsFlushedAfter result (S.is_flushed sink.new) }

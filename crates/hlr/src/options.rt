@@ -11,7 +11,7 @@ use std::alloc::{AllocError, Global};
 use tatp_rows::GREATEST_WIDTH;
 
 /// The version that `--version` prints.
-const VERSION: &str = "0.4.0";
+const VERSION: &str = "0.5.0";
 
 /// The most MB that `--snapshot-at` may give, which are a terabyte.
 const GREATEST_SNAPSHOT_AT: u32 = 1_048_576;

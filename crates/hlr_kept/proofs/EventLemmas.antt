@@ -1,5 +1,5 @@
 -- What a right step says of the book: an event that is answered Done changes it as its line says, and any other leaves it.
-use Rattle.std.proofs.Common.{◌≡◌, ◌∙◌, refl, sym, ap, ℕ, Bool, true, false, [], ◌∷◌, inl, inr, Some, None, Ok, Err}
+use Rattle.std.proofs.Common.{◌≡◌, ◌∙◌, refl, sym, ap, Bool, true, false, [], ◌∷◌, inl, inr, Some, None, Ok, Err}
 use Rattle.std.specs.Prelude.{Result, ◌&&◌}
 use Rattle.tatp_rows.proofs.OrderedLemmas.{by_test}
 use Rattle.tatp_rows.specs.declared.refusal.Refusal.{Refusal}
@@ -143,15 +143,18 @@ pub not_again : (event : Event) (before after : Store) (told : Reply) → is_cha
 not_again event before after told change none left room step =
     asked_not before after told none left room (action_for event before.book) ((row_step event before told after (done_on_rows event change)).0 step)
 
--- and leaves the regions
-asked_regions : (wanted : Result Action Refusal) (before after : Store) (told : Reply) → IsAskedStep wanted before told after → after.regions ≡ before.regions
-asked_regions (Err why) before after told step = ap (λ (s : Store). s.regions) step.1
-asked_regions (Ok act) before after told step = owned (is_loose (s_id_of act) before.regions) act step
+-- and changes nothing but rows
+asked_rows : (wanted : Result Action Refusal) (before after : Store) (told : Reply) → IsAskedStep wanted before told after → after ≡ record before { book = after.book }
+asked_rows (Err why) before after told step = step.1 ∙ ap (λ (s : Store). record before { book = s.book }) (sym step.1)
+asked_rows (Ok act) before after told step = owned (is_loose (s_id_of act) before.regions) act step
   where
-    owned : (loose : Bool) (act : Action) → IsOwnedStep loose act before told after → after.regions ≡ before.regions
-    owned true act step = ap (λ (s : Store). s.regions) step.1
-    owned false act step = ap (λ (s : Store). s.regions) step.4
+    owned : (loose : Bool) (act : Action) → IsOwnedStep loose act before told after → after ≡ record before { book = after.book }
+    owned true act step = step.1 ∙ ap (λ (s : Store). record before { book = s.book }) (sym step.1)
+    owned false act step = step.4 ∙ ap (λ (b : Book). record before { book = b }) (sym (ap (λ (s : Store). s.book) step.4))
+
+pub other_rows : (event : Event) (before after : Store) (told : Reply) → is_change event ≡ true → IsStep event before told after → after ≡ record before { book = after.book }
+other_rows event before after told change step =
+    asked_rows (action_for event before.book) before after told ((row_step event before told after (done_on_rows event change)).0 step)
 
 pub same_regions : (event : Event) (before after : Store) (told : Reply) → is_change event ≡ true → IsStep event before told after → after.regions ≡ before.regions
-same_regions event before after told change step =
-    asked_regions (action_for event before.book) before after told ((row_step event before told after (done_on_rows event change)).0 step)
+same_regions event before after told change step = ap (λ (s : Store). s.regions) (other_rows event before after told change step)

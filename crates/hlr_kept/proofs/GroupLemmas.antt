@@ -6,7 +6,6 @@ use Rattle.tatp_rows.proofs.OrderedLemmas.{by_test}
 use Rattle.journal.specs.Lines.{lines, lines_from, open_from, HasNoZero}
 use Rattle.journal.proofs.LineLemmas.{lines_other, open_other, lines_one_feed, open_one_feed, whole_lines, whole-append}
 use Rattle.journal.proofs.TextLemmas.{text_byte, no_zero-append}
-use Rattle.edit_lines.specs.Lines.{line_of}
 use Rattle.edit_lines.proofs.LineLemmas.{plain_line}
 use Rattle.hlr_core.specs.declared.order.Answer.{Answer}
 use Rattle.hlr_core.specs.declared.order.Order.{Order}

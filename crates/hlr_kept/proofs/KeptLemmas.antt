@@ -1,10 +1,8 @@
 -- Orders under way, and what is written of them.
 use Rattle.std.proofs.Common.{◌≡◌, ◌∙◌, refl, sym, ap, subst, inl, inr, ⊎_elim, ℕ, true, List, [], ◌∷◌, ◌++◌, Some}
 use Rattle.journal_file.specs.Device.{LeavesOnly}
-use Rattle.journal.specs.Lines.{HasFence, IsWhole, lines, recovered, text}
-use Rattle.journal.specs.Tape.{HasLinesBetween, IsOpen}
-use Rattle.journal.specs.declared.tape.Tape.{Tape}
-use Rattle.journal.proofs.MomentLemmas.{weaker}
+use Rattle.journal.specs.Lines.{HasFence, lines, recovered}
+use Rattle.journal.specs.Tape.{HasLinesBetween}
 use Rattle.tatp_actions.specs.Book.{empty_book}
 use Rattle.edit_lines.specs.Lines.{first_line}
 use Rattle.hlr_owners.specs.Owners.{OwnersState, book_in, store_in}
@@ -13,10 +11,10 @@ use Rattle.hlr_core.specs.Run.{IsOrderStep}
 use Rattle.hlr_core.specs.declared.order.Answer.{Answer}
 use Rattle.hlr_core.specs.declared.order.Order.{Order}
 use Rattle.hlr_core.proofs.RunLemmas.{run_more}
-use Rattle.hlr_kept.specs.Runs.{IsAhead, IsBegun, IsGroup, IsOnDisk, StandsAfterSome, changed_rows, is_writable, line_bytes, lines_of}
+use Rattle.hlr_kept.specs.Runs.{IsAhead, IsBegun, IsGroup, changed_rows, is_writable, line_bytes, lines_of}
 use Rattle.hlr_kept.specs.Rows.{book_after_lines, book_of, book_of_lines}
 use Rattle.hlr_kept.proofs.GroupLemmas.{order_group, group-append, group_none}
-use Rattle.hlr_kept.proofs.RunLemmas.{all_orders, behind_begun, fit_more, lines_more, stands}
+use Rattle.hlr_kept.proofs.RunLemmas.{all_orders, behind_begun, fit_more, lines_more}
 
 -- no order is ahead
 pub none_ahead : (register : OwnersState) (answers : List Answer) (group : List ℕ) → answers ≡ [] → group ≡ [] → IsAhead (store_in register) [] register answers group
@@ -51,30 +49,6 @@ all_written stored orders register answers group low now was begun rows is =
 pub begun-append : (low more : List (List ℕ)) → IsBegun low → IsBegun (low ++ more)
 begun-append [] more begun = absurd begun
 begun-append (first ∷ low) more begun = tt
-
-module _ {D : Type 0} (seen : D → List ℕ) (may_leave : D → List ℕ → Type 0) where
-  -- a store is on the disk once all lines are
-  pub disk_after : (stored : Store) (orders : List Order) (register : OwnersState) (answers : List Answer) (group : List ℕ) (old new : Tape D) → IsAhead stored orders register answers group
-      → IsOnDisk seen may_leave stored old → IsOpen seen may_leave new → new.synced ≡ new.end → IsWhole (text (seen new.device))
-      → recovered (seen new.device) ≡ recovered (seen old.device) ++ lines group → IsOnDisk seen may_leave (store_in register) new
-  disk_after stored orders register answers group old new was disk opened synced whole is = record {
-    open_tape = opened;
-    synced = synced;
-    whole = whole;
-    begun = subst IsBegun (sym is) (begun-append (recovered (seen old.device)) (lines group) disk.begun);
-    rows = all_written stored orders register answers group (recovered (seen old.device)) (recovered (seen new.device)) was disk.begun disk.rows is;
-  }
-
--- what a crash leaves while the lines of orders are written
-module _ {D : Type 0} (seen : D → List ℕ) (may_leave : D → List ℕ → Type 0) (moment : D → ℕ) (left_since : D → ℕ → List ℕ → Type 0) where
-  pub write_leaves : (stored : Store) (orders : List Order) (register : OwnersState) (answers : List Answer) (old new : Tape D) (group : List ℕ) → IsOnDisk seen may_leave stored old
-      → IsAhead stored orders register answers group
-      → LeavesOnly moment left_since old.device new.device (HasLinesBetween (recovered (seen old.device)) (recovered (seen old.device) ++ lines group))
-      → LeavesOnly moment left_since old.device new.device (λ c. HasFence c × StandsAfterSome orders answers stored c)
-  write_leaves stored orders register answers old new group disk was run =
-      weaker moment left_since old.device new.device (HasLinesBetween (recovered (seen old.device)) (recovered (seen old.device) ++ lines group))
-      (λ c. HasFence c × StandsAfterSome orders answers stored c) run
-      (λ c between. stands orders answers stored (store_in register) (recovered (seen old.device)) (lines group) c was.run was.fit disk.begun disk.rows was.lines.lines between)
 
 module _ {D : Type 0} (moment : D → ℕ) (left_since : D → ℕ → List ℕ → Type 0) where
   -- what two runs of calls leave

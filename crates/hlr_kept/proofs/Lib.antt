@@ -3,6 +3,7 @@ pub mod DraftLemmas
 pub mod EventLemmas
 pub mod GroupLemmas
 pub mod HeldLemmas
+pub mod JournalLemmas
 pub mod KeptLemmas
 pub mod PageLemmas
 pub mod ReadingLemmas

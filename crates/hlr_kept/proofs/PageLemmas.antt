@@ -1,7 +1,7 @@
 -- Pages of ordered rows: each goes on behind the last row of the one before.
-use Rattle.std.proofs.Common.{◌≡◌, ◌∙◌, refl, sym, ap, subst, ℕ, zero, suc, ◌+◌, ◌-◌, ◌<◌, ◌≤◌, true, false, List, [], ◌∷◌, ◌++◌, append_assoc, arith, length, length-append, take, drop, min, get_or, inl, inr, ◌==◌, nat_lt, nat_le}
+use Rattle.std.proofs.Common.{◌≡◌, ◌∙◌, refl, sym, ap, subst, ℕ, ◌+◌, ◌-◌, ◌<◌, ◌≤◌, true, false, List, [], ◌∷◌, ◌++◌, append_assoc, arith, length, length-append, take, drop, min, get_or, inl, inr, ◌==◌, nat_lt, nat_le}
 use Rattle.std.proofs.lemmas.Bool.{cases_lt}
-use Rattle.std.proofs.lemmas.List.{append-nil, drop_all, length-take, length-drop, take_all, take-append-drop, take-append-le, take_more}
+use Rattle.std.proofs.lemmas.List.{length-take, length-drop, take_all, take-append-drop, take-append-le, take_more}
 use Rattle.std.proofs.lemmas.List.Elements.{filter-append}
 use Rattle.std.specs.List.{AllByRecursion, filter}
 use Rattle.tatp_rows.proofs.AppendLemmas.{each-left, each-right, ordered-right}

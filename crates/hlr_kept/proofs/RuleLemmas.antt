@@ -1,17 +1,16 @@
 -- The rules of a register's rows, as its owners and its index keep them, and what they say of each row of a table.
-use Rattle.std.proofs.Common.{◌≡◌, ◌≢◌, ◌∙◌, refl, sym, ap, subst, ℕ, ◌<◌, ◌==◌, nat_le, nat_lt, true, false, List, [], ◌∷◌, arith, Option, Some, None}
+use Rattle.std.proofs.Common.{◌≡◌, ◌≢◌, ◌∙◌, refl, sym, subst, ℕ, ◌<◌, ◌==◌, nat_le, nat_lt, true, false, List, [], ◌∷◌, arith, Option, Some, None}
 use Rattle.std.specs.List.{AllByRecursion}
-use Rattle.std.specs.Prelude.{IsSome, is_some}
+use Rattle.std.specs.Prelude.{IsSome}
 use Rattle.mr_node.specs.Rows.{key_of_pair}
 use Rattle.tatp_rows.proofs.Common.{nat_tests}
 use Rattle.tatp_rows.proofs.OrderedLemmas.{absent_below, absent_cons, by_test, each_found, each_from_two, each-weaker, key_found}
 use Rattle.tatp_rows.proofs.RowLemmas.{access_s_id, access_type, facility_s_id, facility_type, forwarding_ranges, forwarding_s_id, forwarding_type, subscriber_ranges}
 use Rattle.tatp_rows.specs.Keys.{key_of, subscriber_key}
 use Rattle.tatp_rows.specs.Ordered.{IsOrderedBy, row_at, with_row}
-use Rattle.tatp_rows.specs.Rows.{SubscriberRow, AccessInfoRow, SpecialFacilityRow, CallForwardingRow, subscriber_in_range, access_in_range, facility_in_range, forwarding_in_range}
+use Rattle.tatp_rows.specs.Rows.{SubscriberRow, subscriber_in_range, access_in_range, facility_in_range, forwarding_in_range}
 use Rattle.tatp_actions.specs.Book.{Book, IsBook, facility_at, first_subscriber, subscriber_at}
 use Rattle.tatp_actions.specs.Listed.{IsListed, subscriber_fields, access_fields, facility_fields, forwarding_fields}
-use Rattle.tatp_actions.specs.declared.listed.KeyFields.{KeyFields}
 use Rattle.hlr_core.specs.Index.{index_of, number_pair}
 use Rattle.hlr_core.specs.Numbers.{HasNoTwin}
 use Rattle.hlr_kept.specs.Draft.{AreKeyed, packed_key}

@@ -107,7 +107,7 @@ none_stays [] = refl
 none_stays (l ∷ lines) = none_stays lines
 
 -- lines behind others
-after-append : (a b : List (List ℕ)) (book : Option Book) → book_after_lines (a ++ b) book ≡ book_after_lines b (book_after_lines a book)
+pub after-append : (a b : List (List ℕ)) (book : Option Book) → book_after_lines (a ++ b) book ≡ book_after_lines b (book_after_lines a book)
 after-append [] b book = refl
 after-append (l ∷ a) b book = after-append a b (book_after_line l book)
 
@@ -115,7 +115,7 @@ pub behind_begun : (a b : List (List ℕ)) → IsBegun a → book_of_lines (a ++
 behind_begun [] b begun = absurd begun
 behind_begun (first ∷ a) b begun = after-append a b (book_after_first (first_checked first))
 
-cancel : {A : Type 0} (xs ys zs : List A) → xs ++ ys ≡ xs ++ zs → ys ≡ zs
+pub cancel : {A : Type 0} (xs ys zs : List A) → xs ++ ys ≡ xs ++ zs → ys ≡ zs
 cancel [] ys zs same = same
 cancel (x ∷ xs) ys zs same = cancel xs ys zs cc
 

@@ -27,7 +27,7 @@ use Rattle.hlr_core.specs.declared.event.Event.TheVariants.{AddSubscriber, AddAc
 use Rattle.hlr_owners.specs.Store.{Store}
 use Rattle.hlr_kept.specs.Runs.{IsBegun, IsOnDisk}
 use Rattle.hlr_kept.specs.Rows.{book_after_event, book_after_line, book_after_lines, book_after_read, book_of_lines}
-use Rattle.hlr_kept.specs.Snapshot.{events_of_book, insertion, lines_of_book, number_of}
+use Rattle.hlr_kept.specs.Snapshot.{insertion, lines_of_book, number_of}
 use Rattle.hlr_kept.proofs.RunLemmas.{behind_begun}
 
 -- the line of an event that is done

@@ -1,6 +1,7 @@
 -- Orders under way in a register with its journal.
-use Rattle.std.proofs.Common.{◌≡◌, ◌∙◌, refl, sym, ap, subst, ℕ, ◌≤◌, true, List, [], ◌∷◌, ◌++◌, length, take, Option, Some, None, arith}
-use Rattle.std.proofs.lemmas.List.{append-nil}
+use Rattle.std.proofs.Common.{◌≡◌, ◌∙◌, refl, sym, ap, subst, ℕ, true, List, [], ◌∷◌, ◌++◌, length, take, drop, Option, Some, None, Result, Ok, Err, IfErr, IfSome, OnOk, arith}
+use Rattle.std.proofs.lemmas.List.{take-append-drop}
+use Rattle.tatp_actions.specs.Book.{Book}
 use Rattle.journal_file.specs.Device.{LeavesOnly}
 use Rattle.journal_file.specs.declared.fault.JournalFault.{JournalFault}
 use Rattle.journal.specs.Lines.{HasFence, lines}
@@ -14,10 +15,13 @@ use Rattle.hlr_core.specs.declared.order.Answer.{Answer}
 use Rattle.hlr_core.specs.declared.order.Order.{Order}
 use Rattle.hlr_kept.specs.Rows.{book_after_lines, book_of}
 use Rattle.hlr_kept.specs.Runs.{IsAhead, IsOnDisk, StandsAfterSome, changed_rows, is_writable, line_bytes, lines_of}
+use Rattle.hlr_kept.specs.Keeping.{IsSettled, StandsAfterFirst, StandsFor}
 use Rattle.hlr_kept.specs.UnderWay.{IsReady, IsUnchanged, IsUnderWay}
 use Rattle.hlr_kept.specs.declared.journaled.Journaled.{Journaled}
+use Rattle.hlr_kept.specs.declared.keeping.Journal.{Journal}
 use Rattle.hlr_kept.proofs.KeptLemmas.{none_ahead, order_ahead}
-use Rattle.hlr_kept.proofs.RunLemmas.{all_orders}
+use Rattle.hlr_kept.proofs.JournalLemmas.{settled_disk}
+use Rattle.hlr_kept.proofs.RunLemmas.{all_orders, some_orders}
 
 module _ {D : Type 0} (seen : D → List ℕ) (may_leave : D → List ℕ → Type 0) where
   -- what hasn't changed is under way as before, and ready
@@ -26,7 +30,7 @@ module _ {D : Type 0} (seen : D → List ℕ) (may_leave : D → List ℕ → Ty
   unchanged_under_way stored orders answers before after same was = record {
     works = same.fault ∙ was.works;
     disk = subst (λ (t : Tape D). IsOnDisk seen may_leave stored t) (sym same.tape) was.disk;
-    ahead = subst (λ (r : OwnersState). IsAhead stored orders r answers after.group.items) (sym same.register)
+    ahead = subst (λ (r : OwnersState). IsAhead stored orders r answers after.journal.group.items) (sym same.register)
         (subst (λ (b : List ℕ). IsAhead stored orders before.register answers b) (sym same.group) was.ahead);
   }
 
@@ -39,15 +43,15 @@ module _ {D : Type 0} (seen : D → List ℕ) (may_leave : D → List ℕ → Ty
   }
 
   -- one order more is under way
-  module _ (before after : Journaled D) (one : Order) (told : Answer) (tape : after.tape ≡ before.tape) (fault : after.fault ≡ before.fault)
+  module _ (before after : Journaled D) (one : Order) (told : Answer) (tape : after.journal.tape ≡ before.journal.tape) (fault : after.journal.fault ≡ before.journal.fault)
       (step : IsOrderStep one (store_in before.register) told (store_in after.register))
-      (fits : changed_rows one told ≡ true → is_writable one ≡ true) (put : after.group.items ≡ before.group.items ++ line_bytes one told) where
+      (fits : changed_rows one told ≡ true → is_writable one ≡ true) (put : after.journal.group.items ≡ before.journal.group.items ++ line_bytes one told) where
     pub carried : (stored : Store) (orders : List Order) (answers : List Answer) → IsUnderWay seen may_leave stored orders answers before
         → IsUnderWay seen may_leave stored (orders ++ one ∷ []) (answers ++ told ∷ []) after
     carried stored orders answers was = record {
       works = fault ∙ was.works;
       disk = subst (λ (t : Tape D). IsOnDisk seen may_leave stored t) (sym tape) was.disk;
-      ahead = order_ahead stored orders before.register after.register answers (answers ++ told ∷ []) before.group.items after.group.items one told was.ahead step fits put refl;
+      ahead = order_ahead stored orders before.register after.register answers (answers ++ told ∷ []) before.journal.group.items after.journal.group.items one told was.ahead step fits put refl;
     }
 
     pub carried_ready : AllHome after.register.owners → IsReady seen may_leave before → IsReady seen may_leave after
@@ -58,35 +62,79 @@ module _ {D : Type 0} (seen : D → List ℕ) (may_leave : D → List ℕ → Ty
           (some.0, some.1 ++ one ∷ [], some.2 ++ told ∷ [], carried some.0 some.1 some.2 some.3);
     }
 
-  -- where nothing is to be written, the disk has the register's rows
-  idle_disk : (stored : Store) (orders : List Order) (answers : List Answer) (register : OwnersState) (group : List ℕ) (tape : Tape D) → IsOnDisk seen may_leave stored tape
-      → IsAhead stored orders register answers group → group ≡ [] → IsOnDisk seen may_leave (store_in register) tape
-  idle_disk stored orders answers register group tape disk was none =
-      let nothing : lines_of orders answers ≡ [] = sym was.lines.lines ∙ ap lines none in
-      record {
-        open_tape = disk.open_tape;
-        synced = disk.synced;
-        whole = disk.whole;
-        begun = disk.begun;
-        rows = disk.rows ∙ ap (λ (l : List (List ℕ)). book_after_lines l (Some stored.book)) (sym nothing) ∙ all_orders orders answers stored (store_in register) was.run was.fit;
-      }
-
   -- what is on the disk is settled
-  pub settled : (now : Journaled D) → now.fault ≡ None → IsOnDisk seen may_leave (store_in now.register) now.tape → now.group.items ≡ []
+  pub settled : (now : Journaled D) → now.journal.fault ≡ None → IsOnDisk seen may_leave (store_in now.register) now.journal.tape → now.journal.group.items ≡ []
       → IsUnderWay seen may_leave (store_in now.register) [] [] now
-  settled now works disk none = record { works = works; disk = disk; ahead = none_ahead now.register [] now.group.items refl none }
-
-  pub idle_settled : (now : Journaled D) → now.group.items ≡ [] → (stored : Store) (orders : List Order) (answers : List Answer)
-      → IsUnderWay seen may_leave stored orders answers now → IsUnderWay seen may_leave (store_in now.register) [] [] now
-  idle_settled now none stored orders answers was =
-      settled now was.works (idle_disk stored orders answers now.register now.group.items now.tape was.disk was.ahead none) none
+  settled now works disk none = record { works = works; disk = disk; ahead = none_ahead now.register [] now.journal.group.items refl none }
 
   pub settled_ready : (now : Journaled D) → AllHome now.register.owners → IsUnderWay seen may_leave (store_in now.register) [] [] now → IsReady seen may_leave now
   settled_ready now home is = record { home = home; under_way = λ works. (store_in now.register, [], [], is) }
 
   -- after a write that failed
-  pub broken_ready : (now : Journaled D) (why : JournalFault) → AllHome now.register.owners → now.fault ≡ Some why → IsReady seen may_leave now
+  pub broken_ready : (now : Journaled D) (why : JournalFault) → AllHome now.register.owners → now.journal.fault ≡ Some why → IsReady seen may_leave now
   broken_ready now why home broken = record { home = home; under_way = λ works. absurd (let clash : Some why ≡ None = sym broken ∙ works in cc) }
+
+  -- a journal with orders under way stands for the rows of its register
+  pub under_way_stands : (stored : Store) (orders : List Order) (answers : List Answer) (now : Journaled D) → IsUnderWay seen may_leave stored orders answers now
+      → StandsFor seen may_leave (book_in now.register.owners) now.journal
+  under_way_stands stored orders answers now was = λ works. record {
+    open_tape = was.disk.open_tape;
+    synced = was.disk.synced;
+    whole = was.disk.whole;
+    begun = was.disk.begun;
+    no_zero = was.ahead.lines.no_zero;
+    whole_lines = was.ahead.lines.whole;
+    rows = ap (book_after_lines (lines now.journal.group.items)) was.disk.rows
+        ∙ ap (λ (l : List (List ℕ)). book_after_lines l (Some stored.book)) was.ahead.lines.lines
+        ∙ all_orders orders answers stored (store_in now.register) was.ahead.run was.ahead.fit;
+  }
+
+  pub ready_stands : (now : Journaled D) → IsReady seen may_leave now → StandsFor seen may_leave (book_in now.register.owners) now.journal
+  ready_stands now ready = λ works. let some = ready.under_way works in under_way_stands some.0 some.1 some.2 now some.3 works
+
+  -- the rows after the first so many lines are those after the first so many orders
+  pub first_some : (stored : Store) (orders : List Order) (answers : List Answer) (now : Journaled D) (c : List ℕ) → IsUnderWay seen may_leave stored orders answers now
+      → StandsAfterFirst seen now.journal c → StandsAfterSome orders answers stored c
+  first_some stored orders answers now c was first =
+      let all = lines_of orders answers in
+      let front = take first.count all in
+      let some = some_orders orders answers stored (store_in now.register) was.ahead.run was.ahead.fit front (drop first.count all, sym (take-append-drop first.count all)) in
+      let same : book_after_lines (take first.count (lines now.journal.group.items)) (book_of (seen now.journal.tape.device)) ≡ book_after_lines front (Some stored.book) =
+      ap (λ (l : List (List ℕ)). book_after_lines (take first.count l) (book_of (seen now.journal.tape.device))) was.ahead.lines.lines ∙ ap (book_after_lines front) was.disk.rows in
+      record {
+        count = some.count;
+        within = some.within;
+        after = some.after;
+        run = some.run;
+        rows = first.rows ∙ sym first.after ∙ same ∙ some.rows;
+      }
+
+  -- a sync
+  module _ (before : Journaled D) (j : Journal D) (stands : (book : Book) → StandsFor seen may_leave book before.journal → StandsFor seen may_leave book j) where
+    abbrev Synced : Journaled D
+    Synced = record before { journal = j }
+
+    sync_settled : IsReady seen may_leave before → IsSettled j → IsUnderWay seen may_leave (store_in before.register) [] [] Synced
+    sync_settled ready is =
+        settled Synced is.0 (settled_disk seen may_leave (store_in before.register) j is (stands (book_in before.register.owners) (ready_stands before ready))) is.1
+
+    pub synced_ready : (done : Result (Unit {0}) JournalFault) → IsReady seen may_leave before → OnOk done (IsSettled j) → IfErr done (λ why. j.fault ≡ Some why) → IsReady seen may_leave Synced
+    synced_ready (Ok u) ready is broken = settled_ready Synced ready.home (sync_settled ready is)
+    synced_ready (Err why) ready is broken = broken_ready Synced why ready.home broken
+
+    pub synced_settled : (done : Result (Unit {0}) JournalFault) → IsReady seen may_leave before → OnOk done (IsSettled j)
+        → OnOk done ((stored : Store) (orders : List Order) (answers : List Answer) → IsUnderWay seen may_leave stored orders answers before → IsUnderWay seen may_leave (store_in before.register) [] [] Synced)
+    synced_settled (Ok u) ready is = λ stored orders answers was. sync_settled ready is
+    synced_settled (Err why) ready is = tt
+
+  pub synced_written : (done : Result (Unit {0}) JournalFault) (j : Journal D) → OnOk done (IsSettled j) → OnOk done (j.group.items ≡ [])
+  synced_written (Ok u) j is = is.1
+  synced_written (Err why) j is = tt
+
+  pub synced_stays : (fault : Option JournalFault) (done : Result (Unit {0}) JournalFault) (before : Journaled D) (j : Journal D) → IfSome fault (λ why. (done ≡ Err why) × (j ≡ before.journal))
+      → IfSome fault (λ why. (done ≡ Err why) × (record before { journal = j } ≡ before))
+  synced_stays None done before j stays = tt
+  synced_stays (Some why) done before j stays = (stays.0, ap (λ (k : Journal D). record before { journal = k }) stays.1)
 
   -- between two calls, a crash leaves what is on the disk
   pub stands_now : (moment : D → ℕ) (left_since : D → ℕ → List ℕ → Type 0) (only_now : (d : D) (c : List ℕ) → left_since d (moment d) c → may_leave d c)

@@ -1,4 +1,5 @@
 pub mod Draft
+pub mod Keeping
 pub mod Laws
 pub mod Restored
 pub mod Rows

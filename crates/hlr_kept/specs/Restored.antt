@@ -2,14 +2,15 @@
 use Rattle.std.specs.Prelude.{◌≡◌, ℕ, Bool, true, false, List, Some, Ok}
 use Rattle.hlr_owners.specs.Owners.{book_in}
 use Rattle.edit_lines.specs.Reading.{first_checked}
-use Rattle.hlr_kept.specs.Rows.{book_after_line}
+use Rattle.hlr_kept.specs.Rows.{HasOtherRows, book_after_line}
 use Rattle.hlr_kept.specs.declared.opening.Restored.{Restored}
 
 -- a line may lead from one register to another: the first line leaves it, and the others change its rows
 abbrev pub Leads : Bool → List ℕ → Restored → Restored → Type 0
 Leads false line before after = (first_checked line ≡ Ok tt) × (after.register ≡ before.register)
 Leads true line before after =
-    book_after_line line (Some (book_in before.register.owners)) ≡ Some (book_in after.register.owners)
+    (book_after_line line (Some (book_in before.register.owners)) ≡ Some (book_in after.register.owners))
+    × HasOtherRows before.register after.register
 
 -- the same, with the first line read by then
 abbrev pub Restores : List ℕ → Restored → Restored → Type 0

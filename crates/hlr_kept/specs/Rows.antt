@@ -1,10 +1,11 @@
 -- The rows that a journal stands for. Its first line names the format, and each other line is that of an event which is
 -- answered Done where its turn comes.
-use Rattle.std.specs.Prelude.{ℕ, List, [], ◌∷◌, Option, Some, None, Result, Ok, Err, if◌then◌else◌}
+use Rattle.std.specs.Prelude.{◌≡◌, ℕ, List, [], ◌∷◌, Option, Some, None, Result, Ok, Err, if◌then◌else◌}
 use Rattle.tatp_rows.specs.declared.refusal.Refusal.{Refusal}
 use Rattle.tatp_actions.specs.Book.{Book, empty_book}
 use Rattle.tatp_actions.specs.declared.action.Action.{Action}
 use Rattle.tatp_actions.specs.declared.action.RowReply.{RowReply}
+use Rattle.hlr_owners.specs.Owners.{OwnersState, book_in, store_in}
 use Rattle.hlr_core.specs.Step.{action_for, is_done, whole_effect}
 use Rattle.hlr_core.specs.declared.event.Event.{Event}
 use Rattle.journal.specs.Lines.{recovered}
@@ -52,3 +53,7 @@ book_of_lines (first ∷ lines) = book_after_lines lines (book_after_first (firs
 -- the rows that a file stands for, or None if it is no journal of a register
 abbrev pub book_of : List ℕ → Option Book
 book_of file = book_of_lines (recovered file)
+
+-- nothing has changed of a register but its rows
+abbrev pub HasOtherRows : OwnersState → OwnersState → Type 0
+HasOtherRows before after = store_in after ≡ record (store_in before) { book = book_in after.owners }

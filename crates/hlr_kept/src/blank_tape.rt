@@ -1,15 +1,20 @@
 //! A tape that a snapshot can be written on.
 ghost use Rattle.std.specs.Prelude.{◌≡◌, [], ⊤, IfOk};
+ghost use Rattle.journal_file.specs.Relayed.{relayed_leaves, relayed_seen};
 ghost use Rattle.journal.specs.Lines.{IsWhole, recovered, text};
 ghost use Rattle.journal.specs.Tape.{IsOpen};
 
 use journal::{
-    Disk, JournalFault, Machine, Memory, Replace, Tape, Unread, UnreadMemory, open_next, replay,
+    Disk, JournalFault, Machine, Memory, Relayed, Replace, Tape, Unread, UnreadMemory, open_next,
+    replay, replay_bytes,
 };
 use std::alloc::Global;
 
 /// How many zeros the file has that a file in memory makes for a snapshot.
 const BLANK: usize = 64;
+
+/// What a file holds that an owner has made for a snapshot.
+static ZEROS: [u8; 1 << 16] = [0; 1 << 16];
 
 /// A file whose place another one can take, which it makes by itself.
 pub trait NextTape: Replace + Drop {
@@ -59,6 +64,19 @@ pub fn blank<U: Unread + Drop>(alloc: Global, mut unread: U) -> Result<Tape<U::F
 {
     let ends = replay(alloc, &mut unread, &mut NoLine)?;
     let mut tape = Tape::new(unread.into_device());
+    tape.recover(ends)?;
+    Ok(tape)
+}
+
+/// Takes a file of 65,536 zeros, which its owner has made and synced, and returns its tape, on which a snapshot can be
+/// written. Gives up with `Memory`.
+pub(crate) fn blank_relayed(alloc: Global, fd: i32) -> Result<Tape<Relayed>, JournalFault>
+    ensures open_tape { IfOk result (λ tape. IsOpen relayed_seen relayed_leaves tape) }
+    ensures whole { IfOk result (λ tape. IsWhole (text (relayed_seen tape.device))) }
+    ensures blank { IfOk result (λ tape. recovered (relayed_seen tape.device) ≡ []) }
+{
+    let ends = replay_bytes(alloc, &ZEROS, &mut NoLine)?;
+    let mut tape = Tape::new(Relayed::new(alloc, fd, &ZEROS));
     tape.recover(ends)?;
     Ok(tape)
 }

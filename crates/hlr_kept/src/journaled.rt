@@ -1,8 +1,7 @@
 //! A register with the journal that keeps it.
-ghost use Rattle.std.specs.Prelude.{◌≡◌, ◌⊎◌, ◌≤◌, ◌+◌, ◌++◌, [], ◌∷◌, List, None, Some, Ok, Err, true, length, vec_len, vec_capacity, IfErr, IfOk, IfSome, OnErr, OnOk};
+ghost use Rattle.std.specs.Prelude.{◌≡◌, ◌⊎◌, ◌++◌, [], ◌∷◌, List, None, Some, Ok, Err, length, IfErr, IfOk, IfSome, OnErr, OnOk};
 ghost use Rattle.journal_file.specs.Device.{LeavesOnly};
 ghost use Rattle.journal.specs.Lines.{HasFence};
-ghost use Rattle.edit_lines.specs.Lines.{has_line, is_change};
 ghost use Rattle.hlr_owners.specs.Owners.{AllHome, book_in, store_in};
 ghost use Rattle.hlr_owners.specs.Recut.{IsRecut};
 ghost use Rattle.hlr_owners.specs.Store.{Store};
@@ -13,14 +12,12 @@ ghost use Rattle.hlr_core.specs.declared.order.Answer.TheVariants as answer;
 ghost use Rattle.hlr_core.specs.declared.order.Order.{Order};
 ghost use Rattle.hlr_core.specs.declared.order.Order.TheVariants as order;
 ghost use Rattle.hlr_kept.specs.Rows.{book_of};
-ghost use Rattle.hlr_kept.specs.Runs.{IsOnDisk, StandsAfterSome, line_bytes, tells_done};
+ghost use Rattle.hlr_kept.specs.Runs.{IsOnDisk, StandsAfterSome};
 ghost use Rattle.hlr_kept.specs.UnderWay.{IsReady, IsUnchanged, IsUnderWay};
 
 use crate::blank_tape::NextTape;
-use crate::restoring::tells_done;
+use crate::keeping::Journal;
 use crate::snapshots::snapshot;
-use crate::writing::write;
-use edit_lines::{LONGEST, push_line};
 use hlr_core::{Answer, Event, Order, Refusal, Register, Reply};
 use journal::{Device, JournalFault, Tape};
 use std::alloc::Global;
@@ -32,11 +29,7 @@ use std::alloc::Global;
 pub struct Journaled<D: Device> {
     pub(crate) alloc: Global,
     pub(crate) register: Register,
-    pub(crate) tape: Tape<D>,
-    /// The lines that are yet to be written.
-    pub(crate) group: Vec<u8>,
-    /// Why a sync gave up, if one did.
-    pub(crate) fault: Option<JournalFault>,
+    pub(crate) journal: Journal<D>,
     pub(crate) snapshots: Snapshots,
 }
 
@@ -66,18 +59,6 @@ impl Snapshots {
     }
 }
 
-/// Puts the line of an event behind the others, if it was answered `Done`. There is room for it.
-fn put_line(group: &mut Vec<u8>, event: &Event, reply: &Reply)
-    requires room { vec_len group.old + 44 ≤ vec_capacity group.old }
-    requires change { tells_done reply.now ≡ true → is_change event.now ≡ true }
-    ensures items { group.new.items ≡ group.old.items ++ line_bytes (order.Event event.now) (answer.Reply reply.now) }
-    ensures fits { tells_done reply.now ≡ true → has_line event.now ≡ true }
-{
-    if tells_done(reply) {
-        let _ = push_line(group, event);
-    }
-}
-
 impl<D: Device> Journaled<D> {
     /// Applies an event, as `Register::apply` does, and puts its line behind those that are yet to be written if the
     /// reply is `Done`. Gives up with the fault of an earlier sync, or with `Memory`, and then nothing has changed.
@@ -89,18 +70,14 @@ impl<D: Device> Journaled<D> {
         ensures ahead { IfOk result (λ reply. (stored : Store) (orders : List Order) (answers : List Answer)
             → IsUnderWay D.seen D.may_leave stored orders answers self.old
             → IsUnderWay D.seen D.may_leave stored (orders ++ order.Event event ∷ []) (answers ++ answer.Reply reply ∷ []) self.new) }
-        ensures tape { self.new.tape ≡ self.old.tape }
+        ensures tape { self.new.journal.tape ≡ self.old.journal.tape }
         ensures refused { OnErr result (IsUnchanged self.old self.new) }
-        ensures cause { IfErr result (λ why. (self.old.fault ≡ Some why) ⊎ (why ≡ JournalFault.Memory)) }
+        ensures cause { IfErr result (λ why. (self.old.journal.fault ≡ Some why) ⊎ (why ≡ JournalFault.Memory)) }
+        ensures stays { IfSome self.old.journal.fault (λ why. result ≡ Err why) }
     {
-        if let Some(fault) = self.fault {
-            return Err(fault);
-        }
-        if self.group.reserve(LONGEST).is_err() {
-            return Err(JournalFault::Memory);
-        }
+        self.journal.make_room()?;
         let reply = self.register.apply(event);
-        put_line(&mut self.group, &event, &reply);
+        self.journal.put(&event, &reply);
         Ok(reply)
     }
 
@@ -112,9 +89,9 @@ impl<D: Device> Journaled<D> {
         ensures ahead { (stored : Store) (orders : List Order) (answers : List Answer)
             → IsUnderWay D.seen D.may_leave stored orders answers self.old
             → IsUnderWay D.seen D.may_leave stored (orders ++ order.Recut (record { items = bounds.now }) ∷ []) (answers ++ answer.Recut result ∷ []) self.new }
-        ensures tape { self.new.tape ≡ self.old.tape }
-        ensures group { self.new.group.items ≡ self.old.group.items }
-        ensures fault { self.new.fault ≡ self.old.fault }
+        ensures tape { self.new.journal.tape ≡ self.old.journal.tape }
+        ensures group { self.new.journal.group.items ≡ self.old.journal.group.items }
+        ensures fault { self.new.journal.fault ≡ self.old.journal.fault }
     {
         self.register.recut_to(bounds)
     }
@@ -127,11 +104,12 @@ impl<D: Device> Journaled<D> {
         ensures ahead { IfOk result (λ told. (stored : Store) (orders : List Order) (answers : List Answer)
             → IsUnderWay D.seen D.may_leave stored orders answers self.old
             → IsUnderWay D.seen D.may_leave stored (orders ++ order.now ∷ []) (answers ++ told ∷ []) self.new) }
-        ensures tape { self.new.tape ≡ self.old.tape }
+        ensures tape { self.new.journal.tape ≡ self.old.journal.tape }
         ensures refused { OnErr result (IsUnchanged self.old self.new) }
-        ensures cause { IfErr result (λ why. (self.old.fault ≡ Some why) ⊎ (why ≡ JournalFault.Memory)) }
+        ensures cause { IfErr result (λ why. (self.old.journal.fault ≡ Some why) ⊎ (why ≡ JournalFault.Memory)) }
+        ensures stays { IfSome self.old.journal.fault (λ why. result ≡ Err why) }
     {
-        if let Some(fault) = self.fault {
+        if let Some(fault) = self.journal.fault {
             return Err(fault);
         }
         match order {
@@ -153,29 +131,18 @@ impl<D: Device> Journaled<D> {
         ensures settled { OnOk result ((stored : Store) (orders : List Order) (answers : List Answer)
             → IsUnderWay D.seen D.may_leave stored orders answers self.old
             → IsUnderWay D.seen D.may_leave (store_in self.new.register) [] [] self.new) }
-        ensures written { OnOk result (self.new.group.items ≡ []) }
+        ensures written { OnOk result (self.new.journal.group.items ≡ []) }
         ensures register { self.new.register ≡ self.old.register }
         ensures any_moment { (stored : Store) (orders : List Order) (answers : List Answer)
             → IsUnderWay D.seen D.may_leave stored orders answers self.old
-            → LeavesOnly D.moment D.left_since self.old.tape.device self.new.tape.device
+            → LeavesOnly D.moment D.left_since self.old.journal.tape.device self.new.journal.tape.device
             (λ c. HasFence c × StandsAfterSome orders answers stored c) }
         // With nothing to write, the file isn't touched.
-        ensures idle { self.old.group.items ≡ [] → self.old.fault ≡ None → (result ≡ Ok tt) × (self.new ≡ self.old) }
-        ensures broken { IfErr result (λ why. self.new.fault ≡ Some why) }
-        ensures stays { IfSome self.old.fault (λ why. (result ≡ Err why) × (self.new ≡ self.old)) }
+        ensures idle { self.old.journal.group.items ≡ [] → self.old.journal.fault ≡ None → (result ≡ Ok tt) × (self.new ≡ self.old) }
+        ensures broken { IfErr result (λ why. self.new.journal.fault ≡ Some why) }
+        ensures stays { IfSome self.old.journal.fault (λ why. (result ≡ Err why) × (self.new ≡ self.old)) }
     {
-        if let Some(fault) = self.fault {
-            return Err(fault);
-        }
-        if self.group.is_empty() {
-            return Ok(());
-        }
-        if let Err(fault) = write(&mut self.tape, &self.group) {
-            self.fault = Some(fault);
-            return Err(fault);
-        }
-        self.group.clear();
-        Ok(())
+        self.journal.sync()
     }
 
     /// Returns the register, whose rows have what isn't synced too.
@@ -187,9 +154,9 @@ impl<D: Device> Journaled<D> {
 
     /// Returns how many bytes of lines are yet to be written. If it is 0, all that was answered is on the disk.
     pub fn unsynced(&self) -> usize
-        ensures { result ≡ length self.now.group.items }
+        ensures { result ≡ length self.now.journal.group.items }
     {
-        self.group.len()
+        self.journal.unsynced()
     }
 
     /// Lets [`Journaled::sync_or_compact`] put a snapshot in the place of the journal once this has so many bytes of
@@ -214,17 +181,17 @@ impl<D: NextTape> Journaled<D> {
         ensures register { self.new.register ≡ self.old.register }
         ensures any_moment { (stored : Store) (orders : List Order) (answers : List Answer)
             → IsUnderWay D.Device.seen D.Device.may_leave stored orders answers self.old
-            → LeavesOnly D.Device.moment D.Device.left_since self.old.tape.device self.new.tape.device
+            → LeavesOnly D.Device.moment D.Device.left_since self.old.journal.tape.device self.new.journal.tape.device
             (λ c. HasFence c × StandsAfterSome orders answers stored c) }
-        ensures broken { IfErr result (λ why. self.new.fault ≡ Some why) }
-        ensures stays { IfSome self.old.fault (λ why. (result ≡ Err why) × (self.new.fault ≡ Some why)) }
+        ensures broken { IfErr result (λ why. self.new.journal.fault ≡ Some why) }
+        ensures stays { IfSome self.old.journal.fault (λ why. (result ≡ Err why) × (self.new.journal.fault ≡ Some why)) }
     {
-        if self.tape.end < self.snapshots.due {
+        if self.journal.tape.end < self.snapshots.due {
             return self.sync();
         }
         let done = self.compact();
-        self.snapshots.put_off(self.tape.end);
-        match (done, self.fault) {
+        self.snapshots.put_off(self.journal.tape.end);
+        match (done, self.journal.fault) {
             (Err(_), Some(fault)) => Err(fault),
             _ => Ok(()),
         }
@@ -237,19 +204,19 @@ impl<D: NextTape> Journaled<D> {
     pub fn compact(&mut self) -> Result<(), JournalFault>
         requires ready { IsReady D.Device.seen D.Device.may_leave self.old }
         ensures ready { IsReady D.Device.seen D.Device.may_leave self.new }
-        ensures settled { self.new.fault ≡ None → (stored : Store) (orders : List Order) (answers : List Answer)
+        ensures settled { self.new.journal.fault ≡ None → (stored : Store) (orders : List Order) (answers : List Answer)
             → IsUnderWay D.Device.seen D.Device.may_leave stored orders answers self.old
             → IsUnderWay D.Device.seen D.Device.may_leave (store_in self.new.register) [] [] self.new }
-        ensures done { OnOk result (self.new.fault ≡ None) }
-        ensures stays { IfSome self.old.fault (λ why. (result ≡ Err why) × (self.new.fault ≡ Some why)) }
+        ensures done { OnOk result (self.new.journal.fault ≡ None) }
+        ensures stays { IfSome self.old.journal.fault (λ why. (result ≡ Err why) × (self.new.journal.fault ≡ Some why)) }
         ensures register { self.new.register ≡ self.old.register }
         ensures any_moment { (stored : Store) (orders : List Order) (answers : List Answer)
             → IsUnderWay D.Device.seen D.Device.may_leave stored orders answers self.old
-            → LeavesOnly D.Device.moment D.Device.left_since self.old.tape.device self.new.tape.device
+            → LeavesOnly D.Device.moment D.Device.left_since self.old.journal.tape.device self.new.journal.tape.device
             (λ c. HasFence c × StandsAfterSome orders answers stored c) }
     {
         self.sync()?;
-        let next = self.tape.device.next_tape(self.alloc)?;
+        let next = self.journal.tape.device.next_tape(self.alloc)?;
         let next = snapshot(self.alloc, &self.register, next)?;
         self.give_way(next)
     }
@@ -262,13 +229,13 @@ impl<D: NextTape> Journaled<D> {
         requires stored { IsOnDisk D.Device.seen D.Device.may_leave (store_in self.old.register) next }
         ensures ready { IsReady D.Device.seen D.Device.may_leave self.new }
         ensures settled { OnOk result (IsUnderWay D.Device.seen D.Device.may_leave (store_in self.new.register) [] [] self.new) }
-        ensures broken { IfErr result (λ why. self.new.fault ≡ Some why) }
+        ensures broken { IfErr result (λ why. self.new.journal.fault ≡ Some why) }
         ensures register { self.new.register ≡ self.old.register }
-        ensures any_moment { LeavesOnly D.Device.moment D.Device.left_since self.old.tape.device self.new.tape.device
+        ensures any_moment { LeavesOnly D.Device.moment D.Device.left_since self.old.journal.tape.device self.new.journal.tape.device
             (λ c. HasFence c × (book_of c ≡ Some (book_in self.old.register.owners))) }
     {
-        if let Err(why) = journal::compact(&mut self.tape, next) {
-            self.fault = Some(why);
+        if let Err(why) = journal::compact(&mut self.journal.tape, next) {
+            self.journal.fault = Some(why);
             return Err(why);
         }
         Ok(())

@@ -1,5 +1,5 @@
 //! A register that hands an answer out only once it is on the disk.
-ghost use Rattle.std.specs.Prelude.{◌≡◌, ◌++◌, [], ◌∷◌, List, length, IfOk, OnErr, OnOk};
+ghost use Rattle.std.specs.Prelude.{◌≡◌, ◌⊎◌, ◌++◌, [], ◌∷◌, List, Some, Err, length, IfErr, IfOk, IfSome, OnErr, OnOk};
 ghost use Rattle.journal_file.specs.Device.{LeavesOnly};
 ghost use Rattle.journal.specs.Lines.{HasFence};
 ghost use Rattle.hlr_owners.specs.Owners.{store_in};
@@ -46,9 +46,12 @@ impl<D: Device> Kept<D> {
             → AreHeld D.seen D.may_leave stored orders self.old
             → AreHeld D.seen D.may_leave stored (orders ++ order.now ∷ []) self.new) }
         ensures count { IfOk result (λ n. n ≡ length self.new.held.items) }
-        ensures tape { self.new.journaled.tape ≡ self.old.journaled.tape }
+        ensures tape { self.new.journaled.journal.tape ≡ self.old.journaled.journal.tape }
         ensures refused { OnErr result (IsUnchanged self.old.journaled self.new.journaled) }
         ensures refused_held { OnErr result (self.new.held.items ≡ self.old.held.items) }
+        ensures cause { IfErr result (λ why. (self.old.journaled.journal.fault ≡ Some why) ⊎ (why ≡ JournalFault.Memory)) }
+        // After a sync that gave up, no order is carried out.
+        ensures broken { IfSome self.old.journaled.journal.fault (λ why. OnOk result ⊥) }
     {
         // The borrow checker of the kit can push a reply only in a body that names each type inside it.
         let _inside: Option<RowReply> = None;
@@ -69,8 +72,12 @@ impl<D: Device> Kept<D> {
         ensures register { self.new.journaled.register ≡ self.old.journaled.register }
         ensures any_moment { (stored : Store) (orders : List Order)
             → AreHeld D.seen D.may_leave stored orders self.old
-            → LeavesOnly D.moment D.left_since self.old.journaled.tape.device self.new.journaled.tape.device
+            → LeavesOnly D.moment D.left_since self.old.journaled.journal.tape.device self.new.journaled.journal.tape.device
             (λ c. HasFence c × StandsAfterSome orders self.old.held.items stored c) }
+        // Without a sync no answer is handed over, and after one that gave up none ever is.
+        ensures held_back { OnErr result (self.new.held.items ≡ self.old.held.items) }
+        ensures broken { IfErr result (λ why. self.new.journaled.journal.fault ≡ Some why) }
+        ensures stays { IfSome self.old.journaled.journal.fault (λ why. (result ≡ Err why) × (self.new.journaled ≡ self.old.journaled)) }
     {
         self.journaled.sync()?;
         let none = Vec::new(self.alloc);
@@ -92,8 +99,9 @@ impl<D: Device> Kept<D> {
             → AreHeld D.seen D.may_leave (store_in self.new.journaled.register) [] self.new) }
         ensures any_moment { (stored : Store) (earlier : List Order)
             → AreHeld D.seen D.may_leave stored earlier self.old
-            → LeavesOnly D.moment D.left_since self.old.journaled.tape.device self.new.journaled.tape.device
+            → LeavesOnly D.moment D.left_since self.old.journaled.journal.tape.device self.new.journaled.journal.tape.device
             (λ c. HasFence c × (answers : List Answer) × StandsAfterSome (earlier ++ orders.now) answers stored c) }
+        ensures broken { IfSome self.old.journaled.journal.fault (λ why. OnOk result ⊥) }
     {
         for order in orders {
             self.submit(order)?;
@@ -110,7 +118,7 @@ impl<D: Device> Kept<D> {
 
     /// Returns how many bytes of lines are yet to be written.
     pub fn unsynced(&self) -> usize
-        ensures { result ≡ length self.now.journaled.group.items }
+        ensures { result ≡ length self.now.journaled.journal.group.items }
     {
         self.journaled.unsynced()
     }

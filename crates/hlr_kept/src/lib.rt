@@ -6,8 +6,10 @@
 //! them whose answer was handed out.
 //!
 //! [`open`] reads a journal into an empty register and returns a [`Journaled`], which applies events and syncs. A
-//! [`Kept`] also holds the answers back until they may be handed out. The laws say what a journal stands for, and the
-//! calls below write a journal and do its lines again.
+//! [`Kept`] also holds the answers back until they may be handed out. [`open_journal`] returns the register and its
+//! [`Journal`] apart, for a caller that applies events in a way of its own. [`open_relayed`] does so where no call can
+//! reach the disk: the calls on the file are owed to its owner. The laws say what a journal stands for, and the calls
+//! below write a journal and do its lines again.
 //!
 //! ```text
 //! let register = Register::open(alloc, 4, 100_000)?;
@@ -21,6 +23,7 @@
 mod blank_tape;
 mod draft;
 mod journaled;
+mod keeping;
 mod kept;
 mod laws;
 mod opening;
@@ -33,12 +36,15 @@ mod writing;
 
 pub use blank_tape::{NextTape, blank};
 pub use journaled::Journaled;
+pub use keeping::Journal;
 pub use kept::Kept;
 pub use laws::{
     applied_is_ahead, crashes_leave_runs, fronts_are_runs, loses_nothing, redone_is_right,
     written_is_kept,
 };
-pub use opening::open;
+pub use opening::{open, open_journal, open_relayed};
 pub use restoring::{redo, tells_done};
-pub use snapshots::{compact, snapshot, snapshots_stand_for_books};
-pub use writing::{begin, write};
+pub use snapshots::{
+    compact, snapshot, snapshot_journal, snapshot_relayed, snapshots_stand_for_books,
+};
+pub use writing::begin;

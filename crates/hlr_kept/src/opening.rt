@@ -1,19 +1,27 @@
 //! Opens a register from its journal.
-ghost use Rattle.std.specs.Prelude.{◌≡◌, [], true, false, List, ℕ, IfOk, OnOk, Some};
+ghost use Rattle.std.specs.Prelude.{◌≡◌, [], ◌∷◌, true, false, List, ℕ, IfOk, OnOk, Some};
 ghost use Rattle.part_table.specs.Regions.{pieces_of};
 ghost use Rattle.tatp_actions.specs.Book.{empty_book};
+ghost use Rattle.journal_file.specs.Device.{LeavesOnly, Only};
+ghost use Rattle.journal_file.specs.Relayed.{relayed_leaves, relayed_left_since, relayed_moment, relayed_seen};
+ghost use Rattle.journal_file.specs.declared.record.Step.TheVariants.{Held};
+ghost use Rattle.journal_file.specs.declared.relayed.Relayed.{Relayed};
+ghost use Rattle.journal.specs.Lines.{HasFence};
 ghost use Rattle.journal.specs.Tape.{AreEnds};
 ghost use Rattle.hlr_owners.specs.Owners.{AllHome, book_in, store_in};
+ghost use Rattle.hlr_owners.specs.Store.{Store};
+ghost use Rattle.hlr_kept.specs.Keeping.{IsSettled, StandsFor};
 ghost use Rattle.hlr_kept.specs.Restored.{Restores};
-ghost use Rattle.hlr_kept.specs.Rows.{book_of};
+ghost use Rattle.hlr_kept.specs.Rows.{HasOtherRows, book_of};
 ghost use Rattle.hlr_kept.specs.UnderWay.{IsReady, IsUnderWay};
 
 use crate::journaled::{Journaled, Snapshots};
+use crate::keeping::Journal;
 use crate::restoring::redo;
 use crate::writing::begin;
 use edit_lines::check_first_line;
 use hlr_core::Register;
-use journal::{Ends, JournalFault, Machine, Tape, Unread, replay};
+use journal::{Device, Ends, JournalFault, Machine, Relayed, Tape, Unread, replay, replay_bytes};
 use std::alloc::Global;
 
 /// A register in which the lines of a journal are done again.
@@ -70,7 +78,7 @@ fn restore<U: Unread>(
     ensures ends { IfOk result (λ both. AreEnds (U.read unread.new) both.1) }
     ensures rows { IfOk result (λ both. book_of (U.read unread.new) ≡ Some (book_in both.0.owners)) }
     ensures home { IfOk result (λ both. AllHome both.0.owners) }
-    ensures pieces { IfOk result (λ both. pieces_of both.0.regions ≡ []) }
+    ensures stays { IfOk result (λ both. HasOtherRows register both.0) }
 {
     let mut restored = Restored {
         register,
@@ -80,11 +88,104 @@ fn restore<U: Unread>(
     Ok((restored.register, ends))
 }
 
+/// Does what [`restore`] does, with a journal all of whose bytes are at hand.
+fn restore_bytes(
+    alloc: Global,
+    register: Register,
+    bytes: &[u8],
+) -> Result<(Register, Ends), JournalFault>
+    requires rows { book_in register.owners ≡ empty_book }
+    requires home { AllHome register.owners }
+    requires pieces { pieces_of register.regions ≡ [] }
+    ensures ends { IfOk result (λ both. AreEnds bytes.now both.1) }
+    ensures rows { IfOk result (λ both. book_of bytes.now ≡ Some (book_in both.0.owners)) }
+    ensures home { IfOk result (λ both. AllHome both.0.owners) }
+    ensures stays { IfOk result (λ both. HasOtherRows register both.0) }
+{
+    let mut restored = Restored {
+        register,
+        is_begun: false,
+    };
+    let ends = replay_bytes(alloc, bytes, &mut restored)?;
+    Ok((restored.register, ends))
+}
+
+/// Makes a file that was read to its end ready to be written, and returns it as a journal. Gives up as [`begin`] does.
+fn resume<D: Device + Drop>(
+    alloc: Global,
+    device: D,
+    ends: Ends,
+) -> Result<Journal<D>, JournalFault>
+    requires ends { AreEnds (D.Device.seen device) ends }
+    requires disk { Only (D.Device.seen device) (D.Device.may_leave device) }
+    ensures stands { IfOk result (λ journal. (stored : Store) → book_of (D.Device.seen device) ≡ Some stored.book
+        → StandsFor D.Device.seen D.Device.may_leave stored.book journal) }
+    ensures settled { IfOk result (λ journal. IsSettled journal) }
+    ensures any_moment { IfOk result (λ journal. LeavesOnly D.Device.moment D.Device.left_since device journal.tape.device
+        (λ c. HasFence c × (book_of c ≡ book_of (D.Device.seen device)))) }
+{
+    let mut tape = Tape::new(device);
+    begin(alloc, &mut tape, ends)?;
+    Ok(Journal::new(alloc, tape))
+}
+
 /// Reads a journal into an empty register, of which no part is lent and no piece is loose, and makes the file ready to
 /// be written. The register has the rows that the file stands for by then; its regions, its words and its slots stay
 /// those of its opening, so nothing is published of these rows yet. A crash during the call leaves the rows as they
-/// are, as [`begin`] says. Gives up with `BadLine` at a line that isn't right or whose event isn't answered `Done`,
-/// with `Memory`, and as `journal::replay` and [`begin`] do.
+/// are, as [`begin`] says. Returns the register and its journal. Gives up with `BadLine` at a line that isn't right or
+/// whose event isn't answered `Done`, with `Memory`, and as `journal::replay` and [`begin`] do.
+pub fn open_journal<U: Unread + Drop>(
+    alloc: Global,
+    register: Register,
+    unread: U,
+) -> Result<(Register, Journal<U::File>), JournalFault>
+    requires unread { U.read unread ≡ [] }
+    requires rows { book_in register.owners ≡ empty_book }
+    requires home { AllHome register.owners }
+    requires pieces { pieces_of register.regions ≡ [] }
+    // The rows are those of the bytes that were read to the end of the file, all of them are on the disk, and a crash at
+    // any moment since then leaves a file with the same rows.
+    ensures rows { IfOk result (λ both. (last : U) × U.IsRead last × (book_of (U.read last) ≡ Some (book_in both.0.owners))
+        × LeavesOnly U.File.moment U.File.left_since (U.file last) both.1.tape.device (λ c. HasFence c × (book_of c ≡ book_of (U.read last)))) }
+    ensures stays { IfOk result (λ both. HasOtherRows register both.0) }
+    ensures home { IfOk result (λ both. AllHome both.0.owners) }
+    ensures stands { IfOk result (λ both. StandsFor U.File.seen U.File.may_leave (book_in both.0.owners) both.1) }
+    ensures settled { IfOk result (λ both. IsSettled both.1) }
+{
+    let mut unread = unread;
+    let (register, ends) = restore(alloc, register, &mut unread)?;
+    let journal = resume(alloc, unread.into_device(), ends)?;
+    Ok((register, journal))
+}
+
+/// Reads a journal, all of whose bytes are at hand, as [`open_journal`] does, and makes its file ready to be written,
+/// through its owner, who knows it by `fd`. Gives up as [`open_journal`] does.
+pub fn open_relayed(
+    alloc: Global,
+    register: Register,
+    fd: i32,
+    bytes: &[u8],
+) -> Result<(Register, Journal<Relayed>), JournalFault>
+    requires rows { book_in register.owners ≡ empty_book }
+    requires home { AllHome register.owners }
+    requires pieces { pieces_of register.regions ≡ [] }
+    // The rows are those of the bytes, and while the owner makes the calls that it is owed, a crash at any moment leaves
+    // a file with the same rows.
+    ensures rows { IfOk result (λ both. (book_of bytes.now ≡ Some (book_in both.0.owners)) × (first : Relayed) × (first.log.calls ≡ (Held, bytes.now) ∷ [])
+        × LeavesOnly relayed_moment relayed_left_since first both.1.tape.device (λ c. HasFence c × (book_of c ≡ book_of bytes.now))) }
+    ensures stays { IfOk result (λ both. HasOtherRows register both.0) }
+    ensures home { IfOk result (λ both. AllHome both.0.owners) }
+    ensures stands { IfOk result (λ both. StandsFor relayed_seen relayed_leaves (book_in both.0.owners) both.1) }
+    ensures settled { IfOk result (λ both. IsSettled both.1) }
+    ensures file { IfOk result (λ both. both.1.tape.device.fd ≡ fd) }
+{
+    let (register, ends) = restore_bytes(alloc, register, bytes)?;
+    let journal = resume(alloc, Relayed::new(alloc, fd, bytes), ends)?;
+    journal.check_file(fd)?;
+    Ok((register, journal))
+}
+
+/// Opens a register with its journal, as [`open_journal`] does, and returns both as one.
 pub fn open<U: Unread + Drop>(
     alloc: Global,
     register: Register,
@@ -94,22 +195,18 @@ pub fn open<U: Unread + Drop>(
     requires rows { book_in register.owners ≡ empty_book }
     requires home { AllHome register.owners }
     requires pieces { pieces_of register.regions ≡ [] }
-    // The rows are those of the bytes that were read to the end of the file, and all of them are on the disk.
-    ensures rows { IfOk result (λ now. (last : U) × U.IsRead last × (book_of (U.read last) ≡ Some (book_in now.register.owners))) }
+    ensures rows { IfOk result (λ now. (last : U) × U.IsRead last × (book_of (U.read last) ≡ Some (book_in now.register.owners))
+        × LeavesOnly U.File.moment U.File.left_since (U.file last) now.journal.tape.device (λ c. HasFence c × (book_of c ≡ book_of (U.read last)))) }
+    ensures stays { IfOk result (λ now. HasOtherRows register now.register) }
     ensures settled { IfOk result (λ now. IsUnderWay U.File.seen U.File.may_leave (store_in now.register) [] [] now) }
     ensures ready { IfOk result (λ now. IsReady U.File.seen U.File.may_leave now) }
     ensures pieces { IfOk result (λ now. pieces_of now.register.regions ≡ []) }
 {
-    let mut unread = unread;
-    let (register, ends) = restore(alloc, register, &mut unread)?;
-    let mut tape = Tape::new(unread.into_device());
-    begin(alloc, &mut tape, ends)?;
+    let (register, journal) = open_journal(alloc, register, unread)?;
     Ok(Journaled {
         alloc,
         register,
-        tape,
-        group: Vec::new(alloc),
-        fault: None,
+        journal,
         snapshots: Snapshots::never(),
     })
 }

@@ -2,7 +2,7 @@
 ghost use Rattle.std.specs.Prelude.{◌≡◌, ◌⊎◌, [], Some, None, IfSome};
 ghost use Rattle.part_table.specs.Regions.{pieces_of};
 ghost use Rattle.hlr_owners.specs.Owners.{AllHome, book_in};
-ghost use Rattle.hlr_kept.specs.Rows.{book_after_line};
+ghost use Rattle.hlr_kept.specs.Rows.{HasOtherRows, book_after_line};
 ghost use Rattle.hlr_kept.specs.Runs.{tells_done, wants_memory};
 
 use edit_lines::read_line;
@@ -30,6 +30,7 @@ pub fn redo(register: &mut Register, line: &[u8]) -> Option<JournalFault>
     requires pieces { pieces_of register.old.regions ≡ [] }
     ensures home { AllHome register.new.owners }
     ensures pieces { pieces_of register.new.regions ≡ [] }
+    ensures stays { HasOtherRows register.old register.new }
     ensures done { result ≡ None → book_after_line line.now (Some (book_in register.old.owners)) ≡ Some (book_in register.new.owners) }
     ensures refused { IfSome result (λ why. (why ≡ JournalFault.Memory) ⊎ (book_after_line line.now (Some (book_in register.old.owners)) ≡ None)) }
 {

@@ -2,6 +2,7 @@
 ghost use Rattle.std.specs.Prelude.{◌≡◌, ◌<◌, ◌++◌, [], map, OnOk, IfOk, Some, IsSome};
 ghost use Rattle.std.specs.List.{AllByRecursion};
 ghost use Rattle.journal_file.specs.Device.{LeavesOnly};
+ghost use Rattle.journal_file.specs.Relayed.{relayed_leaves, relayed_seen};
 ghost use Rattle.journal.specs.Lines.{HasFence, IsWhole, recovered, text};
 ghost use Rattle.journal.specs.Tape.{IsOpen};
 ghost use Rattle.tatp_rows.specs.Keys.{subscriber_key};
@@ -11,14 +12,17 @@ ghost use Rattle.edit_lines.specs.Lines.{line_of};
 ghost use Rattle.hlr_owners.specs.Owners.{AllHome, book_in, store_in};
 ghost use Rattle.hlr_core.specs.Numbers.{HasNoTwin};
 ghost use Rattle.hlr_kept.specs.Draft.{AreKeyed, IsDraft, draft_lines};
+ghost use Rattle.hlr_kept.specs.Keeping.{IsSettled, StandsFor};
 ghost use Rattle.hlr_kept.specs.Rows.{book_of};
 ghost use Rattle.hlr_kept.specs.Runs.{IsOnDisk};
 ghost use Rattle.hlr_kept.specs.Snapshot.{SnapshotsStandForBooks};
 
+use crate::blank_tape::{blank, blank_relayed};
 use crate::draft::Draft;
+use crate::keeping::Journal;
 use crate::table_rows::SnapshotRow;
 use hlr_core::{Access, Facility, Forwarding, FromRow, KeyFields, Register, Subscriber};
-use journal::{Device, JournalFault, Replace, Tape};
+use journal::{Device, JournalFault, Relayed, Replace, Tape, Unread};
 use std::alloc::Global;
 
 /// How many rows are read at a time.
@@ -114,6 +118,44 @@ pub fn snapshot<D: Device + Drop>(
     let mut tape = draft.finish()?;
     tape.sync()?;
     Ok(tape)
+}
+
+/// Writes a snapshot of a register, of which no part is lent, into a file that has no line, and returns it as the journal
+/// of the register. From an `Ok` on, the file stands for the rows of the register. Gives up as [`blank`] and [`snapshot`]
+/// do, and then the file is to be thrown away.
+pub fn snapshot_journal<U: Unread + Drop>(
+    alloc: Global,
+    register: &Register,
+    unread: U,
+) -> Result<Journal<U::File>, JournalFault>
+    requires unread { U.read unread ≡ [] }
+    requires home { AllHome register.now.owners }
+    ensures stands { IfOk result (λ journal. StandsFor U.File.seen U.File.may_leave (book_in register.now.owners) journal) }
+    ensures settled { IfOk result (λ journal. IsSettled journal) }
+{
+    let next = blank(alloc, unread)?;
+    let tape = snapshot(alloc, register, next)?;
+    Ok(Journal::new(alloc, tape))
+}
+
+/// Writes a snapshot of a register, of which no part is lent, into a file of 65,536 zeros, through its owner, who knows
+/// it by `fd`, and returns it as the journal of the register. Once the owner has made the calls that it is owed, the
+/// file stands for the rows of the register. Gives up as [`snapshot`] does, and then the file is to be thrown away.
+pub fn snapshot_relayed(
+    alloc: Global,
+    register: &Register,
+    fd: i32,
+) -> Result<Journal<Relayed>, JournalFault>
+    requires home { AllHome register.now.owners }
+    ensures stands { IfOk result (λ journal. StandsFor relayed_seen relayed_leaves (book_in register.now.owners) journal) }
+    ensures settled { IfOk result (λ journal. IsSettled journal) }
+    ensures file { IfOk result (λ journal. journal.tape.device.fd ≡ fd) }
+{
+    let next = blank_relayed(alloc, fd)?;
+    let tape = snapshot(alloc, register, next)?;
+    let journal = Journal::new(alloc, tape);
+    journal.check_file(fd)?;
+    Ok(journal)
 }
 
 /// Puts a snapshot of a register in the place of its journal, all of which is on the disk. A crash at any moment of the

@@ -1,10 +1,12 @@
 //! What no clause says: that calls succeed, and that a register opened from what a crash has left has the right rows.
 ghost use Rattle.std.specs.Prelude.{◌≡◌, [], IfOk, OnOk};
+ghost use Rattle.journal_file.specs.Relayed.{relayed_leaves, relayed_seen};
 ghost use Rattle.hlr_kept.specs.UnderWay.{IsReady};
 
 use super::*;
+use crate::journaled::Snapshots;
 use hlr_core::{Answer, ArrayVec, Event, Order, Refusal, Register, Reply, RowReply};
-use journal::{Device, JournalFault, Memory, Unread, UnreadMemory};
+use journal::{Device, JournalFault, Memory, Owed, Relayed, Unread, UnreadMemory};
 use std::alloc::Global;
 use std::fs;
 use std::test::Fail;
@@ -119,14 +121,21 @@ fn filled(alloc: Global) -> Result<Vec<u8>, Fail> {
     let image = [0; 256].to_vec(alloc)?;
     let mut now = opened(alloc, UnreadMemory::new(Memory::new(alloc, image)))?;
     change_all(&mut now)?;
-    Ok(now.tape.device.bytes().to_vec(alloc)?)
+    Ok(now.journal.tape.device.bytes().to_vec(alloc)?)
+}
+
+/// Opens a journal, and returns whether it has the rows after so many changes.
+fn reads_rows<U: Unread + Drop>(alloc: Global, unread: U, count: usize) -> Result<bool, Fail>
+    requires unread { U.read unread ≡ [] }
+{
+    let mut now = opened(alloc, unread)?;
+    let mut want = changed(alloc, count)?;
+    Ok(replies(&mut now.register) == replies(&mut want))
 }
 
 /// Opens what a crash has left, and returns whether it has the rows after so many changes.
 fn has_rows(alloc: Global, image: Vec<u8>, count: usize) -> Result<bool, Fail> {
-    let mut now = opened(alloc, UnreadMemory::new(Memory::new(alloc, image)))?;
-    let mut want = changed(alloc, count)?;
-    Ok(replies(&mut now.register) == replies(&mut want))
+    reads_rows(alloc, UnreadMemory::new(Memory::new(alloc, image)), count)
 }
 
 /// Loses all bytes from an offset on.
@@ -187,7 +196,7 @@ fn only_what_was_done_is_written(rt: HostRuntime) -> Result<(), Fail> {
     assert_eq!(rt; now.unsynced(), 44);
     now.sync()?;
     assert_eq!(rt; now.unsynced(), 0);
-    let bytes = now.tape.device.bytes();
+    let bytes = now.journal.tape.device.bytes();
     assert!(rt; bytes.get(57) == Some(&b'\n'));
     assert!(rt; bytes.get(58) == Some(&0));
     Ok(())
@@ -257,9 +266,75 @@ fn a_register_comes_back_from_a_file(rt: HostRuntime) -> Result<(), Fail> {
     let mut now = opened(alloc, journal::open(&rt, PATH)?)?;
     change_all(&mut now)?;
     drop(now);
-    let mut now = opened(alloc, journal::open(&rt, PATH)?)?;
-    let mut want = changed(alloc, CHANGES)?;
-    assert!(rt; replies(&mut now.register) == replies(&mut want));
+    assert!(rt; reads_rows(alloc, journal::open(&rt, PATH)?, CHANGES)?);
     fs::remove_dir_all(&rt, FOLDER)?;
+    Ok(())
+}
+
+const SNAPSHOT_PATH: &str = "hlr_kept_test_snapshot";
+
+#[test]
+fn a_snapshot_begins_a_journal(rt: HostRuntime) -> Result<(), Fail> {
+    let alloc = rt.alloc();
+    let _ = fs::remove_file(&rt, SNAPSHOT_PATH);
+    let register = Register::open(alloc, 1, 100)?;
+    drop(snapshot_journal(alloc, &register, journal::open(&rt, SNAPSHOT_PATH)?)?);
+    let mut now = opened(alloc, journal::open(&rt, SNAPSHOT_PATH)?)?;
+    change_all(&mut now)?;
+    drop(now);
+    assert!(rt; reads_rows(alloc, journal::open(&rt, SNAPSHOT_PATH)?, CHANGES)?);
+    fs::remove_file(&rt, SNAPSHOT_PATH)?;
+    Ok(())
+}
+
+/// Opens a register from a journal all of whose bytes are at hand.
+fn relayed(alloc: Global, bytes: &[u8]) -> Result<Journaled<Relayed>, JournalFault>
+    ensures ready { IfOk result (λ now. IsReady relayed_seen relayed_leaves now) }
+{
+    let Ok(register) = Register::open(alloc, 2, 50) else {
+        return Err(JournalFault::Memory);
+    };
+    let (register, journal) = open_relayed(alloc, register, 3, bytes)?;
+    Ok(Journaled {
+        alloc,
+        register,
+        journal,
+        snapshots: Snapshots::never(),
+    })
+}
+
+/// Makes the calls that are owed on a file, as its owner does.
+fn make_calls(file: &mut Vec<u8>, owed: &[Owed]) -> Result<(), Fail> {
+    for call in owed {
+        if file.len() < call.to {
+            file.resize(call.to, 0)?;
+        }
+        for at in call.from..call.to {
+            if let Some(byte) = file.get_mut(at) {
+                *byte = call.bytes.get(at - call.from).copied().unwrap_or(0);
+            }
+        }
+    }
+    Ok(())
+}
+
+#[test]
+fn a_register_comes_back_over_the_owed_calls(rt: HostRuntime) -> Result<(), Fail> {
+    let alloc = rt.alloc();
+    let mut file = [0; 256].to_vec(alloc)?;
+    let mut now = relayed(alloc, &file)?;
+    change_all(&mut now)?;
+    make_calls(&mut file, now.journal.device().owed())?;
+    assert!(rt; has_rows(alloc, file, CHANGES)?);
+    now.journal.note_made();
+    assert!(rt; now.journal.device().owed().is_empty());
+    now.journal.make_sync_room()?;
+    let snapshot = snapshot_relayed(alloc, &now.register, 4)?;
+    let mut file = Vec::new(alloc);
+    file.resize(65_536, 0)?;
+    make_calls(&mut file, snapshot.device().owed())?;
+    assert!(rt; has_rows(alloc, file, CHANGES)?);
+    now.journal.give_up();
+    assert!(rt; matches!(now.journal.make_sync_room(), Err(JournalFault::Failed)));
     Ok(())
 }

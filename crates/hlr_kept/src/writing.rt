@@ -1,14 +1,11 @@
-//! Writes the lines of orders that are under way.
-ghost use Rattle.std.specs.Prelude.{◌≡◌, List, OnOk, Some};
+//! Makes a file ready to be written.
+ghost use Rattle.std.specs.Prelude.{◌≡◌, OnOk, Some};
 ghost use Rattle.journal_file.specs.Device.{LeavesOnly, Only};
 ghost use Rattle.journal.specs.Lines.{HasFence};
 ghost use Rattle.journal.specs.Tape.{AreEnds};
-ghost use Rattle.hlr_owners.specs.Owners.{OwnersState, store_in};
 ghost use Rattle.hlr_owners.specs.Store.{Store};
-ghost use Rattle.hlr_core.specs.declared.order.Answer.{Answer};
-ghost use Rattle.hlr_core.specs.declared.order.Order.{Order};
 ghost use Rattle.hlr_kept.specs.Rows.{book_of};
-ghost use Rattle.hlr_kept.specs.Runs.{IsAhead, IsOnDisk, StandsAfterSome};
+ghost use Rattle.hlr_kept.specs.Runs.{IsOnDisk};
 
 use edit_lines::push_first_line;
 use journal::{Device, Ends, JournalFault, Tape};
@@ -22,6 +19,7 @@ pub fn begin<D: Device>(alloc: Global, tape: &mut Tape<D>, ends: Ends) -> Result
     requires disk { Only (D.seen tape.old.device) (D.may_leave tape.old.device) }
     ensures stored { OnOk result ((stored : Store) → book_of (D.seen tape.old.device) ≡ Some stored.book
         → IsOnDisk D.seen D.may_leave stored tape.new) }
+    ensures fenced { OnOk result (HasFence (D.seen tape.old.device)) }
     ensures any_moment { HasFence (D.seen tape.old.device) → LeavesOnly D.moment D.left_since tape.old.device tape.new.device
         (λ c. HasFence c × (book_of c ≡ book_of (D.seen tape.old.device))) }
 {
@@ -32,24 +30,5 @@ pub fn begin<D: Device>(alloc: Global, tape: &mut Tape<D>, ends: Ends) -> Result
     let mut first = Vec::new(alloc);
     push_first_line(&mut first)?;
     tape.commit(&first)?;
-    Ok(())
-}
-
-/// Writes the lines of the orders that are under way, and syncs. From an `Ok` on, the file stands for the rows of the
-/// register, so that the answers to these orders may be handed out. A crash at any moment of the call leaves a file
-/// that stands for the rows after the first so many of them. Gives up as `Tape::commit` does, and then the file is to
-/// be opened again.
-pub fn write<D: Device>(tape: &mut Tape<D>, group: &[u8]) -> Result<(), JournalFault>
-    requires under_way { (stored : Store) × (orders : List Order) × (register : OwnersState) × (answers : List Answer)
-        × IsOnDisk D.seen D.may_leave stored tape.old × IsAhead stored orders register answers group.now }
-    ensures stored { OnOk result ((stored : Store) (orders : List Order) (register : OwnersState) (answers : List Answer)
-        → IsOnDisk D.seen D.may_leave stored tape.old → IsAhead stored orders register answers group.now
-        → IsOnDisk D.seen D.may_leave (store_in register) tape.new) }
-    ensures any_moment { (stored : Store) (orders : List Order) (register : OwnersState) (answers : List Answer)
-        → IsOnDisk D.seen D.may_leave stored tape.old → IsAhead stored orders register answers group.now
-        → LeavesOnly D.moment D.left_since tape.old.device tape.new.device
-        (λ c. HasFence c × StandsAfterSome orders answers stored c) }
-{
-    tape.commit(group)?;
     Ok(())
 }

@@ -4,7 +4,7 @@ use Rattle.tatp_rows.proofs.RowLemmas.{both}
 use Rattle.hlr_owners.specs.Owners.{book_in, store_in}
 use Rattle.hlr_core.proofs.HomeLemmas.{home_to_all}
 use Rattle.hlr_kept.specs.Rows.{book_after_read}
-use Rattle.hlr_kept.proofs.EventLemmas.{done_step, not_again, same_regions}
+use Rattle.hlr_kept.proofs.EventLemmas.{done_step, not_again, other_rows, same_regions}
 use Rattle.hlr_kept.proofs.restoring.redo.Goals as goal
 
 pub apply-reply-requires : goal.apply-reply-requires
@@ -32,3 +32,12 @@ returns-clause-refused c =
     inr (ap (λ read. book_after_read read (book_in c.args.register.now.owners)) (sym c.in-Ok.ensures.exact)
     ∙ not_again c.in-Ok.event (store_in c.args.register.now) (store_in c.apply-reply.new.self) c.apply-reply.result (both _ _ c.in-Ok.ensures.read.0).0 c.requires.pieces
     (sym c.tells_done.ensures ∙ c.if-tells_done.false) (sym c.wants_memory.ensures ∙ c.if-wants_memory.false) c.apply-reply.ensures.step)
+
+pub returns-then-tells_done-clause-stays : goal.returns-then-tells_done-clause-stays
+returns-then-tells_done-clause-stays c = other_rows c.in-Ok.event (store_in c.args.register.now) (store_in c.apply-reply.new.self) c.apply-reply.result (both _ _ c.in-Ok.ensures.read.0).0 c.apply-reply.ensures.step
+
+pub returns-then-wants_memory-clause-stays : goal.returns-then-wants_memory-clause-stays
+returns-then-wants_memory-clause-stays c = other_rows c.in-Ok.event (store_in c.args.register.now) (store_in c.apply-reply.new.self) c.apply-reply.result (both _ _ c.in-Ok.ensures.read.0).0 c.apply-reply.ensures.step
+
+pub returns-clause-stays : goal.returns-clause-stays
+returns-clause-stays c = other_rows c.in-Ok.event (store_in c.args.register.now) (store_in c.apply-reply.new.self) c.apply-reply.result (both _ _ c.in-Ok.ensures.read.0).0 c.apply-reply.ensures.step

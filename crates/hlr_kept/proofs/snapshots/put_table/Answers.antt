@@ -1,4 +1,4 @@
-use Rattle.std.proofs.Common.{◌≡◌, ◌∙◌, ◌<◌, ◌-◌, ◌++◌, ap, arith, refl, sym, subst, ℕ, length, List, take, get_or}
+use Rattle.std.proofs.Common.{◌≡◌, ◌∙◌, ◌<◌, ◌-◌, ◌++◌, ap, arith, refl, sym, subst, length, List, take, get_or}
 use Rattle.std.specs.Prelude.{IsSome, map}
 use Rattle.std.specs.List.{AllByRecursion}
 use Rattle.tatp_actions.specs.Book.{subscriber_at}

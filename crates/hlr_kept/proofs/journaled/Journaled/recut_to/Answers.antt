@@ -13,10 +13,10 @@ recut_to-requires g c = cut_home_of_all c.args.bounds.now c.args.self.now.regist
 pub returns-clause-ready : goal.returns-clause-ready
 returns-clause-ready g c =
     carried_ready g.D.Device.seen g.D.Device.may_leave c.args.self.now _ (order.Recut (record { items = c.args.bounds.now })) (answer.Recut c.recut_to.result) refl refl
-    c.recut_to.ensures.recut (λ done. absurd cc) (sym (append-nil c.args.self.now.group.items))
+    c.recut_to.ensures.recut (λ done. absurd cc) (sym (append-nil c.args.self.now.journal.group.items))
     (still_home c.args.self.now.register c.recut_to.new.self c.recut_to.ensures.homes c.requires.ready.home) c.requires.ready
 
 pub returns-clause-ahead : goal.returns-clause-ahead
 returns-clause-ahead g c =
     carried g.D.Device.seen g.D.Device.may_leave c.args.self.now _ (order.Recut (record { items = c.args.bounds.now })) (answer.Recut c.recut_to.result) refl refl
-    c.recut_to.ensures.recut (λ done. absurd cc) (sym (append-nil c.args.self.now.group.items))
+    c.recut_to.ensures.recut (λ done. absurd cc) (sym (append-nil c.args.self.now.journal.group.items))

@@ -1,4 +1,5 @@
-use Rattle.std.proofs.Common.{◌≡◌, List, ◌++◌, take}
+use Rattle.std.proofs.Common.{◌≡◌, List, ◌++◌, Some, take}
+use Rattle.journal_file.specs.declared.fault.JournalFault.{JournalFault}
 use Rattle.hlr_owners.specs.Store.{Store}
 use Rattle.hlr_core.specs.declared.order.Order.{Order}
 use Rattle.hlr_kept.specs.UnderWay.{AreHeld, IsReady}
@@ -11,5 +12,6 @@ invariant-loop-order g l =
     record {
       ready : IsReady seen may_leave l.self.journaled;
       held : (stored : Store) (earlier : List Order) → AreHeld seen may_leave stored earlier l.fn.self → AreHeld seen may_leave stored (earlier ++ take l.order-index l.orders) l.self;
-      tape : l.self.journaled.tape ≡ l.fn.self.journaled.tape;
+      tape : l.self.journaled.journal.tape ≡ l.fn.self.journaled.journal.tape;
+      broken : (why : JournalFault) → l.fn.self.journaled.journal.fault ≡ Some why → l.self.journaled.journal.fault ≡ Some why;
     }
