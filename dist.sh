@@ -74,21 +74,23 @@ checked() {
   [ -f "$library" ] || stop "there is no $library: run crates/hlr_c/archive.sh behind rt ci, or rt lib --cpu x86-64 in crates/hlr_c"
   command -v rt > /dev/null || stop 'there is no rt, whose kit has liblibc_c.a'
   [ "$("$program" --version)" = "hlr $version" ] || stop "$program isn't version $version: build it anew"
-  called > "$room/called"
+  called | grep -vE '^hlr_(file_.*|journal|snapshot|sync|journal_end)$' > "$room/called"
   nm -g --defined-only "$library" | awk 'NF == 3 { print $3 }' | sort > "$room/global"
   cmp -s "$room/called" "$room/global" || stop "$library hasn't the calls of $header: build it anew"
 }
 
-# linked: makes lib/libhlr.a, lib/libhlr.so.1 and the Redis module of the library and what the kit has for it of malloc and
-# free. In the one object of both, whose code stays as it was built, nothing but the calls is global.
+# linked: makes lib/libhlr.a, lib/libhlr.so.1 and the Redis module of the library and what the kit has for it of the C
+# library. In the one object of both, whose code stays as it was built, nothing but the calls is global. The calls
+# that use files are an object of their own, which the Redis module has no use for.
 linked() {
   local kit
   kit=$(dirname "$(rt doc)")
   ld -r -o "$room/hlr.o" --whole-archive "$library" --no-whole-archive "$kit/c/liblibc_c.a"
   objcopy --wildcard --keep-global-symbol='hlr_*' "$room/hlr.o"
-  (cd "$room" && ar rcsD "$dist/lib/libhlr.a" hlr.o)
+  "${CC:-gcc}" -std=c99 -O2 -fPIC -Wall -Wextra -Wconversion -Werror -c crates/hlr_c/hlr_file.c -o "$room/hlr_file.o"
+  (cd "$room" && ar rcsD "$dist/lib/libhlr.a" hlr.o hlr_file.o)
   echo 'HLR_1 { global: hlr_*; local: *; };' > "$room/hlr.map"
-  "${CC:-gcc}" -shared -o "$dist/lib/$soname" "$room/hlr.o" -Wl,-soname,"$soname" -Wl,--version-script="$room/hlr.map" \
+  "${CC:-gcc}" -shared -o "$dist/lib/$soname" "$room/hlr.o" "$room/hlr_file.o" -Wl,-soname,"$soname" -Wl,--version-script="$room/hlr.map" \
     -Wl,-z,defs -Wl,-z,relro -Wl,-z,now -Wl,-z,noexecstack -Wl,--build-id=none
   redis/build.sh "$dist/$module" "$room/hlr.o" -Wl,-z,defs
   chmod 755 "$dist/$module" # Redis loads no module that isn't executable

@@ -47,6 +47,6 @@ if [ "${1:-all}" = all ]; then
   counted rt ci
   crates/hlr_c/archive.sh > "$room/out" || fail 'crates/hlr_c/archive.sh'
 fi
-parts examples readme docs options streams bytes waiting views memory journal threads wakes library dist redis python live shell
+parts examples readme docs options streams bytes waiting views memory journal journal_c threads wakes library dist redis python live shell
 counted tests/refuse_memory.sh
 finish

@@ -1,6 +1,6 @@
 # The manual page hlr.1, made of what `hlr --help` prints.
 #
-#   hlr --help | awk -v version=0.4.0 -v day=2026-01-01 -f tools/man.awk
+#   hlr --help | awk -v version=0.5.0 -v day=2026-01-01 -f tools/man.awk
 #
 # A line that begins with two blanks, or with one and a number, is a row of a table: the text before the next two blanks
 # is explained by the text after them, and a table of numbers has several entries in each row. Behind `Examples:`, such

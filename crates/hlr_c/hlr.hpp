@@ -16,15 +16,25 @@
  *     }
  *
  * It prints "Done: the location is 268435456", and the store closes itself as it goes out of scope. Compile it with
- * what `pkg-config --cflags --libs hlr` prints.
+ * what `pkg-config --cflags --libs hlr` prints, or with hlr_file.c and the archives that hlr.h names.
  *
  * A store has a register, or is closed. A part is what a store lends: it has a part of the register, or is closed. Both
  * can be moved but not copied, and one that was moved from is closed. As they go out of scope, a store closes itself
  * and a part sends itself home.
  *
+ * A store that is opened with the name of a file has a journal there, which keeps its rows:
+ *
+ *     hlrpp::store store;
+ *     if (store.open("hlr.journal", 1, 524288) != hlrpp::code::done) return 1;
+ *     if (store.update_location(49151000007, 268435456) != hlrpp::code::done) return 1;
+ *     if (store.sync() == hlrpp::code::done) std::puts("no crash takes this change back");
+ *
+ * Such a store syncs as it goes out of scope, but can't tell you then whether the disk has failed. So call sync or
+ * close before, and look at the code.
+ *
  * Each call returns a code, and the compiler warns if you don't look at it. Nothing throws. hlr.h says what each call
  * does, which codes it returns and in what order, and which rules are up to its callers; a call has the same name
- * there, with hlr_ or hlr_part_ in front. These rules are the ones that people break first:
+ * there, with hlr_, hlr_part_ or hlr_file_ in front. These rules are the ones that people break first:
  *
  *   1. Make one call at a time on a store, and one on a part, even if the calls only read. For this reason no call is
  *      const. Two calls at once are undefined behaviour, and code::not_open is no lock.
@@ -66,6 +76,11 @@ enum class [[nodiscard]] code : std::uint8_t {
     many_pieces = HLR_MANY_PIECES,
     worn = HLR_WORN,
     many_parts = HLR_MANY_PARTS,
+    locked = HLR_LOCKED,
+    bad_journal = HLR_BAD_JOURNAL,
+    failed = HLR_FAILED,
+    journaled = HLR_JOURNALED,
+    no_journal = HLR_NO_JOURNAL,
     elsewhere = HLR_ELSEWHERE,
     away = HLR_AWAY,
     not_open = HLR_NOT_OPEN,
@@ -94,6 +109,11 @@ enum class [[nodiscard]] code : std::uint8_t {
     case code::many_pieces: return "ManyPieces";
     case code::worn: return "Worn";
     case code::many_parts: return "ManyParts";
+    case code::locked: return "Locked";
+    case code::bad_journal: return "BadJournal";
+    case code::failed: return "Failed";
+    case code::journaled: return "Journaled";
+    case code::no_journal: return "NoJournal";
     case code::elsewhere: return "Elsewhere";
     case code::away: return "Away";
     case code::not_open: return "NotOpen";
@@ -225,7 +245,7 @@ private:
     hlr_part handle_ = HLR_CLOSED;
 };
 
-/* A register, or a closed handle. */
+/* A register, which may have the file of a journal, or a closed handle. */
 class store {
 public:
     constexpr store() noexcept = default;
@@ -234,24 +254,45 @@ public:
     store(const store &) = delete;
     store &operator=(const store &) = delete;
 
-    store(store &&other) noexcept : handle_(other.handle_) { other.handle_ = HLR_CLOSED; }
+    store(store &&other) noexcept { take(other); }
     store &operator=(store &&other) noexcept {
         if (this != &other) {
             shut();
-            handle_ = other.handle_;
-            other.handle_ = HLR_CLOSED;
+            take(other);
         }
         return *this;
     }
 
-    /* Tells whether the store has a register: an open one refuses subscriber 0 with code::field. */
-    [[nodiscard]] bool is_open() noexcept { return hlr_set_active(&handle_, 0, 1, 1) != HLR_NOT_OPEN; }
+    /* Tells whether the store has a register: an open one tells how wide its zones are. */
+    [[nodiscard]] bool is_open() noexcept {
+        std::uint64_t width = 0;
+        return hlr_width(&handle_, &width) == HLR_DONE;
+    }
 
     /* Returns the handle, for calls of hlr.h. */
     [[nodiscard]] hlr *handle() noexcept { return &handle_; }
 
     code open(std::uint64_t parts, std::uint64_t width) noexcept { return code{hlr_open(parts, width, &handle_)}; }
-    code close() noexcept { return code{hlr_close(&handle_)}; }
+
+    /* Opens the store with the rows of a journal, and makes the file if there is none (hlr_file_open). */
+    code open(const char *path, std::uint64_t parts, std::uint64_t width) noexcept {
+        return code{hlr_file_open(&file_, path, &handle_, parts, width)};
+    }
+
+    /* Closes the store (hlr_close). One that was opened with a path it syncs before (hlr_file_close). */
+    code close() noexcept {
+        return code{file_.name == nullptr ? hlr_close(&handle_) : hlr_file_close(&file_, &handle_)};
+    }
+
+    /* Calls that keep the rows in a file. A store that was opened with a path needs only the first three. */
+    code sync() noexcept { return code{hlr_sync(&handle_)}; }
+    code unsynced(std::uint64_t &bytes) noexcept { return code{hlr_unsynced(&handle_, &bytes)}; }
+    code snapshot() noexcept { return code{hlr_file_snapshot(&file_, &handle_)}; }
+    code snapshot(std::int32_t fd) noexcept { return code{hlr_snapshot(&handle_, fd)}; }
+    code journal(std::int32_t fd, std::uint64_t parts, std::uint64_t width) noexcept {
+        return code{hlr_journal(&handle_, fd, parts, width)};
+    }
+    code journal_end() noexcept { return code{hlr_journal_end(&handle_)}; }
 
     /* Calls that read. */
     code subscriber_data(std::uint64_t s_id, subscriber &row) noexcept {
@@ -358,10 +399,19 @@ public:
     code back(std::uint64_t number) noexcept { return code{hlr_back(&handle_, number)}; }
 
 private:
-    /* Closes the register, if there is one. */
-    void shut() noexcept { hlr_close(&handle_); }
+    /* Closes the register and the file, if there are any. */
+    void shut() noexcept { static_cast<void>(close()); }
+
+    /* Takes what another store has, which is closed then. */
+    void take(store &other) noexcept {
+        handle_ = other.handle_;
+        file_ = other.file_;
+        other.handle_ = HLR_CLOSED;
+        other.file_ = HLR_FILE_CLOSED;
+    }
 
     hlr handle_ = HLR_CLOSED;
+    hlr_file file_ = HLR_FILE_CLOSED;
 };
 
 } // namespace hlrpp

@@ -22,21 +22,26 @@ A call that is refused raises the exception of its code, which is a subclass of 
 ...         print(refused.code.name, int(refused.code), refused)
 NO_SUBSCRIBER 3 subscriber_data: there is no subscriber with this s_id
 
+With `journal`, the name of a file, a register keeps its rows there, and begins with those that the file has. Once
+`sync` has returned, no crash takes back what was changed before.
+
 The library is loaded when the first register is opened. If the environment variable HLR_LIBRARY is set, it is the path
 of the library. Otherwise libhlr.so.1 is looked for in this package, then in the folder that contains the package, and
 then where the system's loader looks. ImportError is raised if it isn't found.
 """
 from .records import load, save
-from .refusals import (Away, Code, Elsewhere, Exists, Field, ManyParts, ManyPieces, Memory, Moving, NoAccess,
-                       NoDestination, NoFacility, NoForwarding, NoNumber, NoPart, NoPiece, NoSubscriber, NotAdjacent,
-                       NotOpen, NumberTaken, OutOfRange, Refused, StillOpen, Worn)
+from .refusals import (Away, BadJournal, Code, Elsewhere, Exists, Failed, Field, Journaled, Locked, ManyParts,
+                       ManyPieces, Memory, Moving, NoAccess, NoDestination, NoFacility, NoForwarding, NoJournal,
+                       NoNumber, NoPart, NoPiece, NoSubscriber, NotAdjacent, NotOpen, NumberTaken, OutOfRange, Refused,
+                       StillOpen, Worn)
 from .register import CELLS, Access, Cell, Facility, Forwarding, Kind, Part, Region, Register, Side, Subscriber
 
-__version__ = "0.4.0"
+__version__ = "0.5.0"
 
 __all__ = [
-    "CELLS", "Access", "Away", "Cell", "Code", "Elsewhere", "Exists", "Facility", "Field", "Forwarding", "Kind",
-    "ManyParts", "ManyPieces", "Memory", "Moving", "NoAccess", "NoDestination", "NoFacility", "NoForwarding",
-    "NoNumber", "NoPart", "NoPiece", "NoSubscriber", "NotAdjacent", "NotOpen", "NumberTaken", "OutOfRange", "Part",
-    "Refused", "Region", "Register", "Side", "StillOpen", "Subscriber", "Worn", "load", "save",
+    "CELLS", "Access", "Away", "BadJournal", "Cell", "Code", "Elsewhere", "Exists", "Facility", "Failed", "Field",
+    "Forwarding", "Journaled", "Kind", "Locked", "ManyParts", "ManyPieces", "Memory", "Moving", "NoAccess",
+    "NoDestination", "NoFacility", "NoForwarding", "NoJournal", "NoNumber", "NoPart", "NoPiece", "NoSubscriber",
+    "NotAdjacent", "NotOpen", "NumberTaken", "OutOfRange", "Part", "Refused", "Region", "Register", "Side", "StillOpen",
+    "Subscriber", "Worn", "load", "save",
 ]

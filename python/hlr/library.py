@@ -3,7 +3,7 @@ import ctypes
 import functools
 import hashlib
 import os
-from ctypes import POINTER, Structure, c_int64, c_size_t, c_uint8, c_uint64, c_void_p
+from ctypes import POINTER, Structure, c_char_p, c_int32, c_int64, c_size_t, c_uint8, c_uint64, c_void_p
 
 NAME = "libhlr.so.1"
 CELLS = 72
@@ -15,6 +15,10 @@ class Handle(Structure):
 
 class PartHandle(Structure):
     _fields_ = [("mark", c_uint64), ("address", c_void_p)]
+
+
+class FileHandle(Structure):
+    _fields_ = [("name", c_void_p), ("folder", c_int32), ("journal", c_int32)]
 
 
 class SubscriberRow(Structure):
@@ -69,6 +73,11 @@ _ACCESSES = [POINTER(AccessAsked), c_size_t, POINTER(AccessRow), c_size_t, *_COD
 # What each call is passed behind the handle; hlr_open is passed it last.
 _CALLS = {
     "hlr_close": [],
+    "hlr_sync": [],
+    "hlr_unsynced": [POINTER(c_uint64)],
+    "hlr_journal": [c_int32, c_uint64, c_uint64],
+    "hlr_snapshot": [c_int32],
+    "hlr_journal_end": [],
     "hlr_subscriber_data": [c_uint64, POINTER(SubscriberRow)],
     "hlr_new_destination": [c_uint64, c_uint64, c_uint64, c_uint64, POINTER(Numbers)],
     "hlr_access_data": [c_uint64, c_uint64, POINTER(AccessRow)],
@@ -106,6 +115,13 @@ _CALLS = {
     "hlr_recut": [POINTER(Bounds), POINTER(c_uint64)],
     "hlr_lend": [c_uint64, POINTER(PartHandle)],
     "hlr_back": [c_uint64],
+}
+
+# What each call on a file is passed behind it.
+_FILE_CALLS = {
+    "hlr_file_open": [c_char_p, POINTER(Handle), c_uint64, c_uint64],
+    "hlr_file_snapshot": [POINTER(Handle)],
+    "hlr_file_close": [POINTER(Handle)],
 }
 
 # What each call on a part is passed behind its handle.
@@ -159,9 +175,11 @@ def library() -> ctypes.CDLL:
         loaded.hlr_open.argtypes = [c_uint64, c_uint64, POINTER(Handle)]
         for name, passed in _CALLS.items():
             getattr(loaded, name).argtypes = [POINTER(Handle), *passed]
+        for name, passed in _FILE_CALLS.items():
+            getattr(loaded, name).argtypes = [POINTER(FileHandle), *passed]
         for name, passed in _PART_CALLS.items():
             getattr(loaded, name).argtypes = [POINTER(PartHandle), *passed]
-        for name in ("hlr_open", *_CALLS, *_PART_CALLS):
+        for name in ("hlr_open", *_CALLS, *_FILE_CALLS, *_PART_CALLS):
             getattr(loaded, name).restype = c_uint8
     except (OSError, AttributeError) as fault:
         raise ImportError(f"hlr finds no library that it can use at {where!r} ({fault}): "

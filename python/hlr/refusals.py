@@ -25,6 +25,11 @@ class Code(enum.IntEnum):
     MANY_PIECES = 16
     WORN = 17
     MANY_PARTS = 22
+    LOCKED = 247
+    BAD_JOURNAL = 248
+    FAILED = 249
+    JOURNALED = 250
+    NO_JOURNAL = 251
     ELSEWHERE = 252
     AWAY = 253
     NOT_OPEN = 254
@@ -143,6 +148,36 @@ class ManyParts(Refused):
     """there are sixteen parts already; dissolve one first"""
 
     code = Code.MANY_PARTS
+
+
+class Locked(Refused):
+    """another process, or another register of this one, has the journal open; close that one first"""
+
+    code = Code.LOCKED
+
+
+class BadJournal(Refused):
+    """the file is no journal, is damaged, or has another version; restore a copy of it"""
+
+    code = Code.BAD_JOURNAL
+
+
+class Failed(Refused):
+    """the journal can't be opened, read or written; see to its path, its rights and its disk"""
+
+    code = Code.FAILED
+
+
+class Journaled(Refused):
+    """a register with a journal lends no part"""
+
+    code = Code.JOURNALED
+
+
+class NoJournal(Refused):
+    """the register has no journal"""
+
+    code = Code.NO_JOURNAL
 
 
 class Elsewhere(Refused):

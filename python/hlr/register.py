@@ -1,6 +1,7 @@
 """A register with its rows, its counts, and the parts that it lends."""
 import ctypes
 import enum
+import os
 import threading
 from dataclasses import dataclass
 from operator import index
@@ -126,6 +127,14 @@ def _number(value: int) -> int:
     return index(value)
 
 
+def _path(journal: Union[str, bytes, "os.PathLike[str]"]) -> bytes:
+    """Returns a path as C has it, which ends at its first 0."""
+    path = os.fsencode(journal)
+    if b"\0" in path:
+        raise ValueError("the path of a journal has a 0 in it")
+    return path
+
+
 def _ten(value: bytes) -> "ctypes.Array[ctypes.c_uint8]":
     if not isinstance(value, (bytes, bytearray)):
         raise TypeError(f"bits, hexes and octets are bytes, and not {type(value).__name__}")
@@ -249,13 +258,13 @@ class _Open:
 
     def __exit__(self, *_: object) -> None:
         try:
-            self._call(self._closing)
+            getattr(self, self._closing)()
         except NotOpen:
             pass
 
     def __del__(self) -> None:
         if getattr(self, "_handle", None) is not None:
-            self._call(self._closing)
+            getattr(self, self._closing)()
 
     def __reduce__(self) -> str:
         raise TypeError("a register or a part can't be copied or pickled")
@@ -265,6 +274,23 @@ class Register(_Open):
     """A register of subscribers. Its `parts`, 1 to 16, share 32 zones of `width` subscribers each, 1 to 524288.
 
     Close a register with `close`, or use it in a `with`. Each call on a closed register raises NotOpen.
+
+    With a `journal`, the register keeps its rows in this file, which is made if there is none. It begins with the rows
+    that the file has, and locks it against other processes until it is closed. A change is in memory until `sync` puts
+    it on the disk, so tell nobody of it before. Once `sync` has returned, no crash takes back what was changed before
+    it. `close` and the end of a `with` sync as well.
+
+    >>> import tempfile
+    >>> with tempfile.TemporaryDirectory() as folder:
+    ...     with Register(journal=f"{folder}/hlr.journal") as register:
+    ...         register.add_subscriber(Subscriber(7, 77))
+    ...         register.sync()
+    ...     with Register(journal=f"{folder}/hlr.journal") as register:
+    ...         register.subscriber_data(7).sub_nbr
+    77
+
+    With a journal, each call that changes a row first raises Failed if a sync has failed before, or Memory if there is
+    no memory for what it adds to the journal. The register is then as it was.
 
     Threads may share a register, because a lock lets one call at a time through. A call releases the interpreter's
     lock, so other threads run meanwhile. `lend` gives a thread a part to itself; until that part is back, a call on the
@@ -282,18 +308,72 @@ class Register(_Open):
     hlr.refusals.NotOpen: scan: the register is closed, or the part was sent home
     """
 
-    def __init__(self, parts: int = 1, width: int = 524288) -> None:
-        """Opens an empty register. Raises Field or Memory."""
+    def __init__(self, parts: int = 1, width: int = 524288,
+                 journal: Union[str, bytes, "os.PathLike[str]", None] = None) -> None:
+        """Opens an empty register, or one with the rows of a journal. Raises Field or Memory, and for a journal also
+        Failed, Locked or BadJournal."""
         super().__init__()
-        handle = c.Handle()
-        code = self._library.hlr_open(_number(parts), _number(width), handle)
+        handle, file = c.Handle(), None
+        if journal is None:
+            code = self._library.hlr_open(_number(parts), _number(width), handle)
+        else:
+            file = c.FileHandle()
+            code = self._library.hlr_file_open(file, _path(journal), handle, _number(parts), _number(width))
         if code != Code.DONE:
             raise refusal(code, "open")
-        self._handle = handle
+        self._handle, self._file, self._process = handle, file, os.getpid()
+
+    def __del__(self) -> None:
+        # A forked child shares the file with its parent, and leaves it alone.
+        if getattr(self, "_file", None) is None or self._process == os.getpid():
+            super().__del__()
 
     def close(self) -> None:
-        """Closes the register, and gives back all of its memory. Parts that are lent keep working."""
-        self._call("close")
+        """Closes the register, and gives back all of its memory. Parts that are lent keep working. With a journal, it
+        syncs before. If that isn't done, it raises Failed, or NoJournal, and the register is closed all the same."""
+        with self._lock:
+            if self._file is None:
+                self._call("close")
+                return
+            code = self._library.hlr_file_close(self._file, self._handle)
+            self._handle = self._file = None
+        if code != Code.DONE:
+            raise refusal(code, "close")
+
+    def sync(self) -> None:
+        """Puts all changes so far on the disk, so that no crash takes them back, and waits for that. After Failed, each
+        later sync and each change raises Failed, until `snapshot` has made a new file. Raises NoJournal, Failed,
+        Memory."""
+        self._call("sync")
+
+    def unsynced(self) -> int:
+        """Returns how many bytes of the journal aren't on the disk yet. Raises NoJournal, Failed, Memory.
+
+        >>> import tempfile
+        >>> with tempfile.TemporaryDirectory() as folder, Register(journal=f"{folder}/hlr.journal") as register:
+        ...     register.add_subscriber(Subscriber(7, 77))
+        ...     register.unsynced()
+        ...     register.sync()
+        ...     register.unsynced()
+        44
+        0
+        """
+        count = ctypes.c_uint64()
+        self._call("unsynced", count)
+        return count.value
+
+    def snapshot(self) -> None:
+        """Syncs, and puts a short journal in the place of the file, which only adds the rows as they are now. It also
+        works after a sync that failed. If the new file was written and couldn't take the place of the old one, it
+        raises Failed, and until another `snapshot` returns, each `sync` raises NoJournal. Raises NoJournal, Away,
+        Memory, Failed."""
+        with self._lock:
+            self._check_open("snapshot")
+            if self._file is None:
+                raise refusal(Code.NO_JOURNAL, "snapshot")
+            code = self._library.hlr_file_snapshot(self._file, self._handle)
+        if code != Code.DONE:
+            raise refusal(code, "snapshot")
 
     def held(self) -> ContextManager[Any]:
         """Keeps out the calls of other threads, as long as its `with` lasts."""
@@ -697,7 +777,7 @@ class Register(_Open):
         return moved.value
 
     def lend(self, part: int) -> "Part":
-        """Lends a part to any thread. Raises NoPart, Away, Memory.
+        """Lends a part to any thread. Raises Journaled, NoPart, Away, Memory.
 
         >>> with Register(parts=2) as register:
         ...     register.add_subscriber(Subscriber(7, 77))

@@ -29,6 +29,10 @@ CRATES = PYTHON.parent / "crates"
 HEADER = CRATES / "hlr_c" / "hlr.h"
 END = 16777217
 UNTOLD = "what it was built from isn't told\n"
+#: Calls that open or close a register, and those with a descriptor, which have no method of their own. The package leaves
+#: out the calls hlr_tape_.., with which a program in C writes a journal in a way of its own.
+UNTOLD_CALLS = {"hlr_open", "hlr_file_open", "hlr_close", "hlr_file_close", "hlr_journal", "hlr_snapshot",
+                "hlr_journal_end"}
 
 
 def load_tests(_loader, tests, _pattern):
@@ -61,6 +65,8 @@ def method(name):
     """The method of a call of hlr.h, by its name there without hlr_."""
     if name == "home":
         return Part.home
+    if name == "file_snapshot":
+        return Register.snapshot
     return getattr(Part, name[len("part_"):]) if name.startswith("part_") else getattr(Register, name)
 
 
@@ -81,14 +87,14 @@ class Alike(unittest.TestCase):
         self.assertIsInstance(hlr.refusals.refusal(99, "post"), RuntimeError)
 
     def test_calls(self):
-        types = {"uint64_t": "c_ulong", "size_t": "c_ulong", "uint8_t": "c_ubyte",
+        types = {"uint64_t": "c_ulong", "size_t": "c_ulong", "uint8_t": "c_ubyte", "int32_t": "c_int",
                  "hlr_access_asked": "AccessAsked", "hlr_destination_asked": "DestinationAsked",
                  "hlr_subscriber": "SubscriberRow", "hlr_access": "AccessRow",
                  "hlr_facility": "FacilityRow", "hlr_forwarding_row": "ForwardingRow", "hlr_numbers": "Numbers", "hlr_region": "RegionRow",
                  "hlr_region_list": "RegionList", "hlr_bounds": "Bounds", "hlr": "Handle",
-                 "hlr_part": "PartHandle"}
-        told = re.findall(r"^uint8_t (hlr_[a-z_]+)\(([^)]*)\);", HEADER.read_text(), re.M)
-        self.assertEqual(len(told), 55)
+                 "hlr_part": "PartHandle", "hlr_file": "FileHandle"}
+        told = re.findall(r"^uint8_t (hlr_(?!tape_)[a-z_]+)\(([^)]*)\);", HEADER.read_text(), re.M)
+        self.assertEqual(len(told), 63)
         library = hlr.library.library()
         for name, parameters in told:
             wanted = []
@@ -96,22 +102,26 @@ class Alike(unittest.TestCase):
                 base, star = re.fullmatch(r"\s*(?:const )?(\w+) (\*?)\w+(?:\[HLR_CELLS\])?", parameter).groups()
                 if parameter.endswith("[HLR_CELLS]"):
                     wanted.append({"int64_t": "LP_c_long_Array_72", "uint64_t": "LP_c_ulong_Array_72"}[base])
+                elif base == "char":
+                    wanted.append("c_char_p")
                 else:
                     wanted.append(("LP_" if star else "") + types[base])
             self.assertEqual([each.__name__ for each in getattr(library, name).argtypes], wanted, name)
-            if name not in ("hlr_open", "hlr_close"):
+            if name not in UNTOLD_CALLS:
                 self.assertTrue(callable(method(name[len("hlr_"):])))
 
     def test_refusals(self):
-        told = re.findall(r"^ \* Refusals: ([A-Z_, ]+|none)\n \*/\nuint8_t hlr_([a-z_]+)\(", HEADER.read_text(), re.M)
-        self.assertEqual(len(told), 55)
+        told = re.findall(r"^ \* Refusals: ([A-Z_, ]+|none)\n \*/\nuint8_t hlr_((?!tape_)[a-z_]+)\(", HEADER.read_text(), re.M)
+        self.assertEqual(len(told), 63)
         for refusals, name in told:
-            if name != "open":
+            if "hlr_" + name not in UNTOLD_CALLS:
                 text = " ".join(inspect.getdoc(method(name)).split())
                 said = re.search(r"Raises ((?:\w+, )*\w+)[.;]", text)
                 names = [getattr(hlr, each).code.name for each in said.group(1).split(", ")] if said else ["none"]
                 if name == "lend":
                     refusals = refusals.replace("STILL_OPEN, ", "")  # each lend makes a handle
+                if name == "file_snapshot":
+                    refusals = "NO_JOURNAL, " + refusals  # a register without a journal has no file
                 self.assertEqual(", ".join(names), refusals, name)
 
     def test_hints(self):
@@ -383,6 +393,168 @@ sub,16777216,999999999999999,1111111111,ffffffffff,ffffffffffffffffffff,1,429496
             register.give(1, Side.HIGH, 16777216)
             self.assertRaises(hlr.Moving, register.facilities, 7)
             self.assertEqual(self.saved(register), (10, self.RECORDS))
+
+
+class Journal(unittest.TestCase):
+    """Registers whose rows are kept in a file."""
+
+    def setUp(self):
+        folder = tempfile.TemporaryDirectory()
+        self.addCleanup(folder.cleanup)
+        self.path = os.path.join(folder.name, "rows.journal")
+
+    def rows(self, **options):
+        """The s_ids and the locations that the file has."""
+        with Register(journal=self.path, **options) as register:
+            return [(row.s_id, row.vlr_location) for row in register.subscribers()]
+
+    def child(self, text):
+        """Runs Python on the file, and tells what it prints and how it ends."""
+        return python("-c", "import os, resource, hlr\n" + text, HLR_TEST_JOURNAL=self.path)
+
+    def test_kept(self):
+        with filled(journal=self.path, parts=2, width=4) as register:
+            self.assertEqual(register.unsynced(), 44 + 19 + 17 + 21)
+            before = register.scan()
+        with Register(journal=self.path, parts=2, width=4) as register:
+            self.assertEqual((register.scan(), register.unsynced(), register.width()), (before, 0, 4))
+            self.assertEqual(register.access_data(7, 1), Access(7, 1))
+            self.assertEqual(register.new_destination(7, 2, 8, 12), [100])
+            register.update_subscriber(7, 2, 1, 9)
+            register.update_location(77, 5)
+            register.delete_forwarding(77, 2, 8)
+            register.set_active(7, 2, False)
+            register.set_number(7, 78)
+            self.assertRaises(hlr.NoSubscriber, register.add_access, Access(8, 1))
+            self.assertEqual(register.unsynced(), 10 + 15 + 12 + 8 + 14)
+            register.sync()
+            self.assertEqual(register.unsynced(), 0)
+        with Register(journal=pathlib.Path(self.path)) as register:
+            self.assertEqual((register.find(78), register.facility_data(7, 2)), (7, Facility(7, 2, False, 0, 9)))
+            self.assertEqual(list(register.forwardings()), [])
+        with Register(journal=os.fsencode(self.path)) as register:
+            self.assertEqual(register.subscriber_data(7).vlr_location, 5)
+
+    def test_lost(self):
+        told = self.child("""if True:
+            register = hlr.Register(journal=os.environ["HLR_TEST_JOURNAL"])
+            for s_id in 1, 2, 3:
+                register.add_subscriber(hlr.Subscriber(s_id, s_id))
+            register.sync()
+            register.update_location(3, 9)
+            os._exit(7)
+            """)
+        self.assertEqual(told, (7, "", ""))
+        self.assertEqual(self.rows(), [(1, 1), (2, 1), (3, 1)])
+
+    def test_dropped(self):
+        register = Register(journal=self.path)
+        register.add_subscriber(Subscriber(7, 77))
+        del register
+        self.assertEqual(self.rows(), [(7, 1)])
+
+    def test_forked(self):
+        with Register(journal=self.path) as register:
+            register.add_subscriber(Subscriber(7, 77))
+            process = os.fork()
+            if process == 0:
+                row = register.subscriber_data(7)
+                register.__del__()
+                os._exit(row.sub_nbr)
+            self.assertEqual(os.waitpid(process, 0)[1] >> 8, 77)
+            self.assertEqual(register.unsynced(), 44)
+            register.sync()
+            register.update_location(77, 5)
+        self.assertEqual(self.rows(), [(7, 5)])
+
+    def test_locked(self):
+        with Register(journal=self.path) as register:
+            self.assertRaises(hlr.Locked, Register, journal=self.path)
+            status, out, err = self.child("hlr.Register(journal=os.environ['HLR_TEST_JOURNAL'])")
+            self.assertEqual((status, out), (1, ""))
+            self.assertIn("hlr.refusals.Locked: open: another process", err)
+            register.snapshot()
+            self.assertRaises(hlr.Locked, Register, journal=self.path)
+        self.assertEqual(self.rows(), [])
+
+    def test_snapshot(self):
+        with Register(journal=self.path) as register:
+            for s_id in range(1, 101):
+                register.add_subscriber(Subscriber(s_id, s_id))
+            for location in range(1, 1001):
+                for s_id in range(1, 101):
+                    register.update_location(s_id, location)
+            register.sync()
+            before = os.path.getsize(self.path)
+            register.update_location(1, 7)
+            register.snapshot()
+            self.assertEqual((os.path.getsize(self.path) < before, register.unsynced()), (True, 0))
+            register.update_location(2, 8)
+        self.assertEqual(self.rows(), [(1, 7), (2, 8)] + [(s_id, 1000) for s_id in range(3, 101)])
+        self.assertEqual(os.listdir(os.path.dirname(self.path)), ["rows.journal"])
+
+    def test_refused(self):
+        for missing in ({"parts": 17}, {"width": 0}, {"parts": -1}):
+            self.assertRaises(hlr.Field, Register, journal=self.path, **missing)
+        self.assertFalse(os.path.exists(self.path))
+        self.assertRaises(TypeError, Register, journal=7)
+        self.assertRaises(ValueError, Register, journal=self.path + "\0")
+        self.assertRaises(hlr.Failed, Register, journal=os.path.dirname(self.path))
+        self.assertRaises(hlr.Failed, Register, journal=self.path + "/rows")
+        for wrong in (b"", b"hlr journal 1\n", b"hello\n\0", b"hlr journal 2\n\0", b"hlr journal 1\nZ\n\0"):
+            pathlib.Path(self.path).write_bytes(wrong)
+            self.assertRaises(hlr.BadJournal, Register, journal=self.path)
+            self.assertEqual(pathlib.Path(self.path).read_bytes(), wrong)
+        with Register() as register:
+            for call in (register.sync, register.unsynced, register.snapshot):
+                self.assertRaises(hlr.NoJournal, call)
+        os.remove(self.path)
+        with Register(journal=self.path) as register:
+            self.assertRaises(hlr.Journaled, register.lend, 0)
+            self.assertRaises(hlr.Journaled, register.lend, 9)
+
+    def test_failed(self):
+        told = self.child("""if True:
+            register = hlr.Register(journal=os.environ["HLR_TEST_JOURNAL"])
+            for s_id in range(1, 50001):
+                register.add_subscriber(hlr.Subscriber(s_id, s_id))
+            resource.setrlimit(resource.RLIMIT_FSIZE, (1 << 20, -1))
+            for call in (register.sync, lambda: register.update_location(1, 2), register.sync, register.unsynced,
+                         register.snapshot):
+                try:
+                    call()
+                except hlr.Failed as refused:
+                    print(refused.code.name, register.subscriber_data(50000).sub_nbr)
+            resource.setrlimit(resource.RLIMIT_FSIZE, (-1, -1))
+            register.snapshot()
+            register.update_location(1, 3)
+            register.close()
+            """)
+        self.assertEqual(told, (0, 5 * "FAILED 50000\n", ""))
+        self.assertEqual(self.rows(), [(1, 3)] + [(s_id, 1) for s_id in range(2, 50001)])
+
+    def test_closed(self):
+        told = self.child("""if True:
+            register = hlr.Register(journal=os.environ["HLR_TEST_JOURNAL"])
+            register.add_subscriber(hlr.Subscriber(7, 77))
+            register.sync()
+            for s_id in range(10000, 50001):
+                register.add_subscriber(hlr.Subscriber(s_id, s_id))
+            resource.setrlimit(resource.RLIMIT_FSIZE, (1 << 20, -1))
+            try:
+                with register:
+                    pass
+            except hlr.Failed:
+                print("failed")
+            try:
+                register.sync()
+            except hlr.NotOpen:
+                print("closed")
+            resource.setrlimit(resource.RLIMIT_FSIZE, (-1, -1))
+            with hlr.Register(journal=os.environ["HLR_TEST_JOURNAL"]) as register:
+                print(register.find(77))
+            """)
+        self.assertEqual(told, (0, "failed\nclosed\n7\n", ""))
 
 
 class Refusals(unittest.TestCase):

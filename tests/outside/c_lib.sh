@@ -20,6 +20,15 @@ ended() {
 # kit_archive: prints where the kit has what the library for C asks of the C library.
 kit_archive() { echo "$(dirname "$(rt doc)")/c/liblibc_c.a"; }
 
+# files_made: compiles the calls that use files to $room/hlr_file.o.
+files_made() { compiled hlr_file.o -std=c99 -Wconversion -Icrates/hlr_c -c crates/hlr_c/hlr_file.c; }
+
+# shared NAME: makes the library for C a shared object, $room/NAME, with the calls that use files.
+shared() {
+  compiled "$1" -shared -fPIC -std=c99 -Icrates/hlr_c crates/hlr_c/hlr_file.c -Wl,--whole-archive "$archive" \
+    -Wl,--no-whole-archive "$(kit_archive)" -Wl,-z,defs
+}
+
 # probe_made: compiles the preload, tests/preload/probe.c.
 probe_made() { compiled probe.so -shared -fPIC tests/preload/probe.c -ldl; }
 
@@ -32,7 +41,7 @@ probed() {
 # installable NAME: what dist.sh reads of the repository, in the folder $room/NAME.
 installable() {
   mkdir "$room/$1"
-  cp --parents dist.sh tools/man.awk crates/hlr/src/options.rt crates/hlr_c/hlr.h crates/hlr_c/hlr.hpp "$archive" crates/hlr/out/hlr \
+  cp --parents dist.sh tools/man.awk crates/hlr/src/options.rt crates/hlr_c/hlr{.h,.hpp,_file.c} "$archive" crates/hlr/out/hlr \
     python/hlr/*.py examples/live/*.* examples/redis/*.* examples/library/*.{c,cc,py} examples/*.csv examples/client.* \
     tests/outside/library/day.cc redis/* README.md CHANGELOG.md docs/*.{md,svg,png} examples/README.md "$room/$1"
 }

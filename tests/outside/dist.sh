@@ -46,13 +46,17 @@ names() {
   nm -D --defined-only "$one/libhlr.so.1" | awk '{ print $3 }' | sort > "$room/exported"
   { echo HLR_1; sed 's/$/@@HLR_1/' "$room/called"; } | sort > "$room/versioned"
   same 'names that libhlr.so.1 exports' "$room/exported" "$room/versioned"
-  is 'names that libhlr.a asks for' "$(nm -u "$one/libhlr.a" | awk 'NF == 2 { print $2 }' | sort | paste -sd ' ')" \
+  ar p "$one/libhlr.a" hlr.o > "$room/hlr.o"
+  is 'names that hlr.o asks for' "$(nm -u "$room/hlr.o" | awk 'NF == 2 { print $2 }' | sort | paste -sd ' ')" \
     'free malloc memcpy memmove memset realloc'
+  is 'what libhlr.a has' "$(ar t "$one/libhlr.a" | paste -sd ' ')" 'hlr.o hlr_file.o'
   is 'the name that the Redis module exports' "$(nm -D --defined-only "$room/one/dist/$module" | awk '{ print $3 }')" RedisModule_OnLoad
   is 'what the Redis module asks for of malloc' "$(nm -D -u "$room/one/dist/$module" | grep -cE ' (malloc|calloc|realloc|free)(@|$)')" 0
   is 'soname' "$(readelf -dW "$one/libhlr.so.1" | sed -n 's/.*(SONAME).*\[\(.*\)\]$/\1/p')" libhlr.so.1
   grep -o 'hlr_[a-z_]*(' crates/hlr_c/hlr.hpp | tr -d '(' | sort -u > "$room/wrapped"
-  same 'calls of hlr.hpp' "$room/wrapped" "$room/called"
+  # A program in C++ that writes a journal in a way of its own makes the calls hlr_tape_.. on a handle of hlr.h.
+  grep -v '^hlr_tape_' "$room/called" > "$room/wanted"
+  same 'calls of hlr.hpp' "$room/wrapped" "$room/wanted"
   sed -n 's/^    HLR_\([A-Z_]*\) = [0-9].*/\1/p' "$header" > "$room/codes"
   sed -n 's/^    [a-z_]* = HLR_\([A-Z_]*\),\{0,1\}$/\1/p' crates/hlr_c/hlr.hpp > "$room/wrapped"
   same 'codes of hlr.hpp' "$room/wrapped" "$room/codes"
@@ -63,7 +67,7 @@ installed() {
   local python=lib/python3/dist-packages/hlr files
   files=$(printf '%s\n' bin/hlr include/hlr.h include/hlr.hpp lib/libhlr.a lib/libhlr.so lib/libhlr.so.1 lib/pkgconfig/hlr.pc $module \
     python/hlr/*.py $python/built.txt $python/libhlr.so.1 share/man/man1/hlr.1 examples/day.{c,cc,py} \
-    examples/first.{c,cc,py} examples/parts.{c,py} examples/save.c examples/backup.py examples/*.csv \
+    examples/first.{c,cc,py} examples/kept.{c,cc,py} examples/parts.{c,py} examples/save.c examples/backup.py examples/*.csv \
     examples/client.{py,sh} examples/live/*.* examples/redis/*.* README.md CHANGELOG.md docs/*.{md,svg,png} examples/README.md |
     sed "s,^python/hlr,$python,; s,^\(README\.\|CHANGELOG\.\|docs/\|examples/\),share/doc/hlr/&," | sort)
   is 'dist.sh install' "$(PREFIX=$room/prefix "$room/one/dist.sh" install 2>&1; echo "$?")" 0

@@ -2,27 +2,14 @@
 # The program with --journal: what a restart, a kill and lost writes leave; files that are refused, and disks that fail.
 #
 #   [HLR=PROGRAM] [ROUNDS=N] tests/outside/journal.sh
-#
-# The records are numbered. Those from 1 to 50 add the subscribers of these s_ids, and each later one moves the next of them
-# to the location of its number. So the locations tell which records a journal has.
 . "$(dirname "$0")/lib.sh" || exit 1
 . tests/outside/c_lib.sh || exit 1
+. tests/outside/journal_lib.sh || exit 1
 hlr=${HLR:-$hlr}
-rounds=${ROUNDS:-100}
-journal=$room/rows.journal
 broken='hlr: write fault: the journal can'\''t be written; see to its disk, and start again'
 unopened='hlr: read fault: the journal can'\''t be made or read; see to its path, its rights and its disk'
-
-# records FROM TO: these records, as fast as they are read.
-records() {
-  awk -v from="$1" -v to="$2" 'BEGIN {
-    for (j = from; j <= to; j++) {
-      s = (j - 1) % 50 + 1
-      if (j > 50) printf "ul,%015d,%d\n", s, j
-      else printf "sub,%d,%015d,0000000000,0000000000,00000000000000000000,1,%d\n", s, s, j
-    }
-  }'
-}
+# how many of the runs have replied to a record
+heard=0
 
 # slowly: hands each line of its input on by itself.
 slowly() { awk '{ print; fflush() }'; }
@@ -53,6 +40,7 @@ replies() { tr -cd '\n' < "$room/out" | wc -c; }
 # kept NAME REACHED: behind so many records, the journal has each record that was replied to, and no hole; $reached is the last.
 kept() {
   local now
+  [ "$(replies)" = 0 ] || heard=$((heard + 1))
   now=$(last)
   if [[ $now =~ ^[0-9]+$ ]] && [ "$now" -ge $(($2 + $(replies))) ]; then
     pass "$1"
@@ -64,21 +52,12 @@ kept() {
   fi
 }
 
-# begun: there is no journal, and nothing of one.
-begun() {
-  rm -rf "$journal" "$journal.new" "$journal.next" "$room"/synced.*
-  reached=0
-}
-
 # long_begun: the journal is one that a snapshot is due for, of 80,000 records.
 long_begun() {
   begun
   cp "$room/long" "$journal"
   reached=80000
 }
-
-# disked WORD .. COMMAND: runs it over the preload of a disk, with variables of that.
-disked() { env LD_PRELOAD="$room/disk.so" "$@"; }
 
 # Rows are there at the next start; without the option none are.
 restarts() {
@@ -122,31 +101,10 @@ all_kinds() {
   done
 }
 
-# begins PROCESS: waits for its first reply, and then for a while.
-begins() {
-  local turn
-  for ((turn = 0; turn < 1000; turn++)); do
-    [ ! -s "$room/out" ] || break
-    kill -0 "$1" 2> /dev/null || break
-    sleep 0.01
-  done
-  sleep "0.0$((RANDOM % 90 + 10))"
-}
-
-# killed COMMAND ..: the command replies to records behind $reached until it is killed.
-killed() {
-  local process
-  : > "$room/out"
-  "$@" <&0 > "$room/out" &
-  process=$!
-  begins "$process"
-  kill -9 "$process" 2> /dev/null
-  wait "$process" 2> /dev/null
-}
-
 # Processes that are killed under load have each record that they replied to. In some rounds snapshots are made meanwhile.
 kills() {
   local round
+  heard=0
   for ((round = 0; round < rounds; round++)); do
     ((round % 25)) || begun
     if ((round % 2)); then
@@ -156,20 +114,14 @@ kills() {
     fi
     kept "kill $round" "$reached"
   done
-  echo "$rounds processes killed"
-}
-
-# left SEED: the journal is what a power failure leaves of it.
-left() {
-  local synced
-  synced=$room/synced.$(stat -c %i "$journal" 2> /dev/null)
-  [ -e "$synced" ] || return 0
-  "$room/mix" "$synced" "$journal" "$room/left" "$1" && mv "$room/left" "$journal"
+  [ "$heard" -gt 0 ] || fail 'no process has replied before it was killed'
+  echo "$rounds processes killed, of which $heard had replied"
 }
 
 # The same where the writes since the last sync are lost in part.
 lost_writes() {
   local round from
+  heard=0 lost=0
   rm -f "$room/late"
   for ((round = 0; round < rounds; round++)); do
     ((round % 25)) || begun
@@ -186,7 +138,9 @@ lost_writes() {
     kept "lost writes $round" "$from"
   done
   is 'replies that were handed on before a sync' "$(bytes_of "$room/late")" 0
-  echo "the writes of $rounds processes lost in part"
+  [ "$heard" -gt 0 ] || fail 'no process has replied before its writes were lost'
+  [ "$lost" -gt 0 ] || fail 'no write was lost'
+  echo "the writes of $lost of $rounds processes lost in part, with $renamings_lost renamings"
 }
 
 # ended_at NAME BEGIN COMMAND ..: the process is killed in each of its calls of the disk, one after another, and what was
@@ -200,7 +154,7 @@ ended_at() {
     disked DISK_ENDS=$call DISK_COPY="$room/synced" "$hlr" --journal "$journal" --snapshot-at 1 < <("${@:3}") > "$room/out" \
       2> "$room/err"
     [ $? = 137 ] || break
-    left "$call"
+    left $((2 * call + 1))
     kept "$1, killed in call $call of the disk" "$from"
   done
   is "$1, not killed" "$(cat "$room/err")" ''
@@ -213,6 +167,47 @@ each_call() {
   ended_at 'a few records' begun few_records
   ended_at 'a file that grows' begun records 1 6000
   ended_at 'a snapshot' long_begun records 80001 80020
+}
+
+# few_rows: the records of a subscriber with a forwarding, whose facility is switched off.
+few_rows() {
+  printf '%s\n' sub,1,000000000000001,0000000000,0000000000,00000000000000000000,1,1 fac,1,1,0,1,1,ABCDE \
+    icf,000000000000001,1,0,24,000000000000002
+}
+
+# imaged NAME SYNCED: of the bytes that were written since the last sync, the journal loses each subset in turn. With all of
+# the eight bytes of its line the facility is switched on, and otherwise it is off. $images counts them.
+imaged() {
+  local bytes mask want
+  bytes=$(cmp -l "$2" "$journal" | wc -l)
+  [ "$bytes" -le 8 ] || { fail "$1: $bytes bytes are not synced"; return; }
+  cp "$journal" "$room/written"
+  for ((mask = 0; bytes > 0 && mask < 1 << bytes; mask++)); do
+    "$room/mix" "$2" "$room/written" "$journal" lost "$mask" || { fail "$1: no image $mask"; return; }
+    want=refused
+    if [ "$bytes" = 8 ] && [ "$mask" = 0 ]; then want=numbers; fi
+    is "$1, image $mask" "$(echo gnd,1,1,0,5 | "$hlr" --journal "$journal" | cut -d , -f 1)" "$want"
+    images=$((images + 1))
+  done
+}
+
+# Each image that a crash may leave of a small group, in each call of the disk: 2^4 of a write that was cut off in the middle,
+# and 2^8 of one that isn't synced.
+each_image() {
+  local call=0 images=0 synced
+  begun
+  few_rows | "$hlr" --journal "$journal" > "$room/out"
+  cp "$journal" "$room/few"
+  while true; do
+    call=$((call + 1))
+    begun
+    cp "$room/few" "$journal"
+    disked DISK_ENDS=$call DISK_COPY="$room/synced" "$hlr" --journal "$journal" < <(echo active,1,1,1) > "$room/out" 2> "$room/err"
+    [ $? = 137 ] || break
+    synced=$room/synced.$(stat -c %i "$journal")
+    [ ! -e "$synced" ] || imaged "call $call of the disk" "$synced"
+  done
+  is 'images of a small group' "$images" 272
 }
 
 # A snapshot takes the place of a long journal, which then has the same rows, and no other.
@@ -445,6 +440,11 @@ in_time() {
   same 'long reports' "$room/out" "$room/want"
   slowly < "$room/in" | head -n 9100 | disked DISK_LATE="$room/late" "$hlr" --journal "$journal" > /dev/null
   is 'replies that were handed on before a sync' "$(bytes_of "$room/late")" 0
+  # The preload sees these replies and the writes of the journal: where syncs don't count, it notes replies.
+  begun
+  records 1 60 > "$room/in"
+  disked DISK_LATE="$room/late" DISK_MUTE=1 "$hlr" --journal "$journal" < "$room/in" > /dev/null
+  [ "$(bytes_of "$room/late")" -gt 0 ] || fail 'the preload sees no reply'
 }
 
 # told: what the replies in $room/out tell of the rows, in the form of the answers to `asked`.
@@ -495,15 +495,14 @@ with_threads() {
 built "$hlr" 'run rt run in crates/hlr' || finish
 tool gcc 'a journal' || finish
 probe_made || finish
-compiled disk.so -shared -fPIC tests/preload/disk.c -ldl || finish
-compiled mix tests/preload/mix.c || finish
-reached=0
+disk_made || finish
 restarts
 all_kinds
 snapshots
 kills
 lost_writes
 each_call
+each_image
 no_room_for_a_snapshot
 copies
 locked

@@ -7,7 +7,7 @@ export PYTHONDONTWRITEBYTECODE=1 PYTHONPATH=$PWD/python HLR_LIBRARY=$room/libhlr
 tool python3 'examples/live' || finish
 tool gcc 'examples/live over the library' || finish
 archive_built || finish
-compiled libhlr.so.1 -shared -Wl,--whole-archive "$archive" -Wl,--no-whole-archive "$(kit_archive)" -Wl,-z,defs || finish
+shared libhlr.so.1 || finish
 python=python3
 if redis-server --version > "$room/out" 2>&1 && (cd / && /usr/bin/python3 -c 'import redis' 2> "$room/err"); then
   redis/build.sh "$room/hlr.so" "$archive" "$(kit_archive)" || fail "the module isn't built"

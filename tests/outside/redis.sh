@@ -71,7 +71,7 @@ servers() {
   local one first=(replica=gcc.so cluster=gcc.so kept=gcc.so rights=gcc.so commands=clang.so)
   local second=(commands=sanitized.so memory=sanitized.so crash=gcc.so hostile=sanitized.so)
   [ -f "$room/clang.so" ] || cp "$room/gcc.so" "$room/clang.so"
-  if python_found && compiled libhlr.so.1 -shared -Wl,--whole-archive "$archive" -Wl,--no-whole-archive "$(kit_archive)" -Wl,-z,defs; then
+  if python_found && shared libhlr.so.1; then
     export PYTHONPATH=$PWD/python HLR_LIBRARY=$room/libhlr.so.1
     first+=(remote=gcc.so)
   fi

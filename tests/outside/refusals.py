@@ -24,15 +24,25 @@ NO_COMMAND = {
     "hlr_find": ["FIELD", "NO_NUMBER"], "hlr_facility_data": ["FIELD", "MOVING", "NO_FACILITY"],
     "hlr_forwarding": ["FIELD", "MOVING", "NO_FORWARDING"], "hlr_next_subscriber": ["NO_SUBSCRIBER"],
     "hlr_next_subscribers": [], "hlr_next_accesses": [], "hlr_next_facilities": [], "hlr_next_forwardings": [], "hlr_width": [],
-    "hlr_look": [], "hlr_lend": ["STILL_OPEN", "NO_PART", "MEMORY"], "hlr_back": ["NO_PART"], "hlr_home": [],
+    "hlr_look": [], "hlr_lend": ["STILL_OPEN", "JOURNALED", "NO_PART", "MEMORY"], "hlr_back": ["NO_PART"], "hlr_home": [],
+    "hlr_journal": ["STILL_OPEN", "FIELD", "MEMORY", "FAILED", "BAD_JOURNAL"], "hlr_snapshot": ["FAILED", "BAD_JOURNAL", "MEMORY"],
+    "hlr_sync": ["NO_JOURNAL", "FAILED", "MEMORY"], "hlr_unsynced": ["NO_JOURNAL", "FAILED", "MEMORY"],
+    "hlr_journal_end": ["NO_JOURNAL", "FAILED", "MEMORY"],
+    "hlr_file_open": ["STILL_OPEN", "FIELD", "MEMORY", "FAILED", "LOCKED", "BAD_JOURNAL"],
+    "hlr_file_snapshot": ["MEMORY", "FAILED"], "hlr_file_close": ["NO_JOURNAL", "FAILED", "MEMORY"],
+    "hlr_tape_open": ["STILL_OPEN", "FIELD", "MEMORY", "BAD_JOURNAL"], "hlr_tape_snapshot": ["MEMORY"],
+    "hlr_tape_reserve": ["NO_JOURNAL", "FAILED", "MEMORY"], "hlr_tape_sync": ["NO_JOURNAL", "FAILED", "MEMORY"],
+    "hlr_tape_owed": ["NO_JOURNAL"], "hlr_tape_made": ["NO_JOURNAL", "FAILED", "MEMORY"], "hlr_tape_end": ["NO_JOURNAL", "FAILED"],
     "hlr_part_range": [], "hlr_part_subscriber_data_many": ["FIELD"], "hlr_part_new_destination_many": ["FIELD"],
     "hlr_part_access_data_many": ["FIELD"],
 }
 # The program lends no part. Of a call that works on one that may be out, AWAY comes behind these, where it has them.
-BEFORE_AWAY = {"STILL_OPEN", "FIELD", "NO_NUMBER", "NO_PART", "MOVING", "OUT_OF_RANGE", "MANY_PIECES", "MANY_PARTS",
+BEFORE_AWAY = {"STILL_OPEN", "JOURNALED", "FIELD", "NO_NUMBER", "NO_PART", "MOVING", "OUT_OF_RANGE", "MANY_PIECES", "MANY_PARTS",
                "NO_PIECE", "NOT_ADJACENT"}
 # The calls of many answer AWAY in places alone.
 NEVER_AWAY = {"hlr_open", "hlr_close", "hlr_find", "hlr_look", "hlr_regions", "hlr_width", "hlr_home", "hlr_part_range",
+              "hlr_journal", "hlr_sync", "hlr_unsynced", "hlr_journal_end", "hlr_file_open", "hlr_file_close",
+              "hlr_tape_open", "hlr_tape_reserve", "hlr_tape_sync", "hlr_tape_owed", "hlr_tape_made", "hlr_tape_end",
               "hlr_subscriber_data_many", "hlr_new_destination_many", "hlr_access_data_many",
               "hlr_part_subscriber_data_many", "hlr_part_new_destination_many", "hlr_part_access_data_many"}
 # The calls on a part, each with that on a register of which it has the refusals but for these, and ELSEWHERE behind FIELD.
@@ -40,7 +50,7 @@ NOT_OF_PARTS = {"NO_NUMBER", "MOVING", "AWAY", "NO_PART"}
 PART_CALLS = ["subscriber_data", "new_destination", "access_data", "update_subscriber", "update_location",
               "insert_forwarding", "delete_forwarding", "set_active", "add_access", "add_facility", "post"]
 # Codes of calls alone.
-OWN_CODES = {"ELSEWHERE", "AWAY", "NOT_OPEN", "STILL_OPEN"}
+OWN_CODES = {"LOCKED", "BAD_JOURNAL", "FAILED", "JOURNALED", "NO_JOURNAL", "ELSEWHERE", "AWAY", "NOT_OPEN", "STILL_OPEN"}
 # A record's number may have more than 64 bits, which is refused Field; a call's number can't.
 ANY_NUMBER = {"post", "take", "divide", "dissolve"}
 

@@ -100,6 +100,7 @@ static void let_go(long pieces, size_t bytes) {
 void *malloc(size_t size) {
     if (is_piece_refused(size)) {
         note();
+        errno = ENOMEM;
         return NULL;
     }
     return had(__libc_malloc(size));
@@ -113,6 +114,7 @@ void *realloc(void *old, size_t size) {
     size_t bytes = old ? malloc_usable_size(old) : 0;
     if (is_piece_refused(size)) {
         note();
+        errno = ENOMEM;
         return NULL;
     }
     void *piece = __libc_realloc(old, size);

@@ -8,7 +8,7 @@ pub use Rattle.std.proofs.lemmas.List.{get_or-drop, get_or-map, get_or-set_other
 pub use Rattle.std.proofs.raw_atomic.Walks.{leaves, proved_at}
 pub use Rattle.std.specs.Box.Ownership.{box_owns}
 pub use Rattle.std.specs.List.{All}
-pub use Rattle.std.specs.Prelude.{None, Option, Result, Some, pos, slice_index, ◌≢◌}
+pub use Rattle.std.specs.Prelude.{None, Option, Result, Some, pos, slice_index, ◌≢◌, ◌⊎◌}
 pub use Rattle.std.specs.declared.alloc.Global.{Global}
 pub use Rattle.arrayvec.specs.ArrayVec.{ArrayVec}
 pub use Rattle.c_handle.proofs.PartsSteps.{Parts, allocator, pair, pair_fits, parts_in, parts_out}
@@ -49,7 +49,7 @@ pub use Rattle.view_board.specs.Nets.{net_of}
 pub use Rattle.view_board.specs.Views.{first_view}
 pub use Rattle.hlr_c.specs.Asked.{asks}
 pub use Rattle.hlr_c.specs.Call.{IsAnswer}
-pub use Rattle.hlr_c.specs.Held.{held}
+pub use Rattle.hlr_c.specs.Held.{IsJournaled, StandsAs, held, held_open}
 pub use Rattle.hlr_c.specs.Inside.{AnswersFrom, AreTold, AreWritten, IsAnsweredTo, IsAwayCode, IsBlock, IsOwn, IsOwnAccess, IsOwnCall}
 pub use Rattle.hlr_c.specs.Many.{AreAsMany, IsPartAccessRead, IsPartDestinationRead, IsPartSubscriberRead}
 pub use Rattle.hlr_c.specs.Parts.{IsPartEdit, IsPartStep, has, read_by}
@@ -58,6 +58,7 @@ pub use Rattle.hlr_c.specs.Rows.{region_for_c}
 pub use Rattle.hlr_c.specs.Told.{access_told, code_told, given_told, numbers_told, subscriber_told}
 pub use Rattle.hlr_c.specs.contracts.kept.Kept.{the_row, the_type}
 pub use Rattle.hlr_c.specs.declared.codes.TheConstants.{AWAY, ELSEWHERE}
+pub use Rattle.hlr_c.specs.declared.opened.FileJournal.{FileJournal}
 pub use Rattle.hlr_c.specs.declared.rows.HlrAccessAsked.{HlrAccessAsked}
 pub use Rattle.hlr_c.specs.declared.rows.HlrDestinationAsked.{HlrDestinationAsked}
 pub use Rattle.hlr_c.specs.declared.rows.HlrNumbers.{HlrNumbers}

@@ -1,5 +1,5 @@
 -- What calls inside the crate promise each other. No clause of a public call cites this.
-use Rattle.std.specs.Prelude.{◌≡◌, ◌⊎◌, ℕ, ◌+◌, ◌-◌, ◌<◌, ◌≤◌, List, length, Option, Some, None, true, slice_index, slice_index_or, ⊤}
+use Rattle.std.specs.Prelude.{◌≡◌, ◌⊎◌, ℕ, ◌+◌, ◌-◌, ◌<◌, ◌≤◌, Bool, true, false, List, length, Option, Some, None, slice_index, slice_index_or, ⊤}
 use Rattle.tatp_rows.specs.Refusal.{code_of}
 use Rattle.tatp_rows.specs.Rows.{is_between}
 use Rattle.tatp_rows.specs.declared.refusal.Refusal.{Refusal}
@@ -10,6 +10,7 @@ use Rattle.holding.specs.Held.{HoldingState}
 use Rattle.hlr_owners.specs.Owners.{OwnersState}
 use Rattle.hlr_core.specs.WhileOut.{IsRegisterStep}
 use Rattle.hlr_core.specs.declared.event.Event.{Event}
+use Rattle.hlr_core.specs.declared.event.Event.TheVariants as event
 use Rattle.hlr_core.specs.declared.event.Reply.TheVariants as reply
 use Rattle.hlr_lent.specs.Away.{IsAway}
 use Rattle.hlr_lent.specs.Sent.{holding_sent}
@@ -19,6 +20,18 @@ use Rattle.hlr_c.specs.Parts.{has}
 use Rattle.hlr_c.specs.declared.codes.TheConstants.{AWAY}
 use Rattle.hlr_c.specs.declared.rows.HlrAccessAsked.{HlrAccessAsked}
 use Rattle.hlr_c.specs.declared.rows.HlrDestinationAsked.{HlrDestinationAsked}
+
+-- an event that changes rows, if it is done
+abbrev pub changes_rows : Event → Bool
+changes_rows (event.SubscriberData s_id) = false
+changes_rows (event.NewDestination s_id sf_type start_time end_time) = false
+changes_rows (event.AccessData s_id ai_type) = false
+changes_rows (event.Post part limit) = false
+changes_rows (event.Give part side at) = false
+changes_rows (event.Take piece part) = false
+changes_rows (event.Divide part at) = false
+changes_rows (event.Dissolve part) = false
+changes_rows _ = true
 
 -- the code of an event that needs a lent part: that of a refusal that is known without the part, or AWAY
 abbrev pub IsAwayCode : Event → OwnersState → ℕ → Type 0

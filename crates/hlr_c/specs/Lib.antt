@@ -2,6 +2,7 @@ pub mod Asked
 pub mod Call
 pub mod Held
 pub mod Inside
+pub mod Journaled
 pub mod Listing
 pub mod Many
 pub mod Opened

@@ -7,7 +7,7 @@ use Rattle.holding.specs.Held.{HoldingState}
 use Rattle.hlr_owners.specs.Owners.{AllHome, IsLent, IsPartHome, OwnersState, store_in}
 use Rattle.hlr_owners.specs.Store.{HasOpening, opening}
 use Rattle.hlr_lent.specs.Jobs.{IsBack}
-use Rattle.hlr_c.specs.declared.codes.TheConstants.{AWAY, DONE, NOT_OPEN, STILL_OPEN}
+use Rattle.hlr_c.specs.declared.codes.TheConstants.{AWAY, DONE, JOURNALED, NOT_OPEN, STILL_OPEN}
 
 -- an open handle stays as it is, and the answer says so; a closed one gets an empty register, or stays closed, with
 -- Field exactly if no register can be opened with this many parts and this width, and with Memory otherwise
@@ -37,13 +37,15 @@ IsKept part register code =
     ((code ≡ code_of NoPart) × IsNoPart part register)
     ⊎ (((code ≡ AWAY) × ¬ (IsPartHome part register)) ⊎ ((code ≡ code_of Memory) × IsThere part register))
 
--- a part moves from an open handle to a closed one; or neither handle changes, and the answer says why
-abbrev pub IsLending : ℕ → Option OwnersState × Option HoldingState → ℕ → Option OwnersState × Option HoldingState → Type 0
-IsLending part (None, lent) code after = (code ≡ NOT_OPEN) × (after ≡ (None, lent))
-IsLending part (Some register, Some other) code after = (code ≡ STILL_OPEN) × (after ≡ (Some register, Some other))
-IsLending part (Some register, None) code (None, lent) = ⊥
-IsLending part (Some register, None) code (Some next, None) = (next ≡ register) × IsKept part register code
-IsLending part (Some register, None) code (Some next, Some lent) = (code ≡ DONE) × IsLent part register lent next
+-- a part moves from an open handle to a closed one; or neither handle changes, and the answer says why, as it does for a
+-- register with a journal
+abbrev pub IsLending : {J : Type 0} → ℕ → Option J → Option OwnersState × Option HoldingState → ℕ → Option OwnersState × Option HoldingState → Type 0
+IsLending part journal (None, lent) code after = (code ≡ NOT_OPEN) × (after ≡ (None, lent))
+IsLending part journal (Some register, Some other) code after = (code ≡ STILL_OPEN) × (after ≡ (Some register, Some other))
+IsLending part (Some journal) (Some register, None) code after = (code ≡ JOURNALED) × (after ≡ (Some register, None))
+IsLending part None (Some register, None) code (None, lent) = ⊥
+IsLending part None (Some register, None) code (Some next, None) = (next ≡ register) × IsKept part register code
+IsLending part None (Some register, None) code (Some next, Some lent) = (code ≡ DONE) × IsLent part register lent next
 
 -- a part is home, because it was, or because it was sent home; or it isn't, or there is none, and nothing changes
 abbrev pub IsComing : ℕ → OwnersState → ℕ → OwnersState → Type 0

@@ -1,18 +1,44 @@
-//! The calls that change rows.
-ghost use Rattle.std.specs.Prelude.{◌≡◌, Ok};
+//! The calls that change rows. Those of a register with a journal put the line of each change that was done behind those
+//! that wait for `hlr_sync`. First they make room for it: they return `FAILED` if an earlier sync has failed, and `Memory`
+//! if there is no room, and then nothing has changed.
+ghost use Rattle.std.specs.Prelude.{◌≡◌, true, Ok, IfOk};
 ghost use Rattle.tatp_rows.specs.Rows.{access_of, facility_of, subscriber_of};
 ghost use Rattle.hlr_core.specs.declared.event.Event.TheVariants as event;
 ghost use Rattle.hlr_c.specs.Asked.{access_asked, deletion_asked, facility_asked, insertion_asked, location_asked, number_asked, subscriber_asked};
 ghost use Rattle.hlr_c.specs.Call.{IsAnswer, IsCall};
+ghost use Rattle.hlr_c.specs.Inside.{changes_rows};
+ghost use Rattle.hlr_c.specs.Journaled.{IsChange, opened_in};
 ghost use Rattle.hlr_c.specs.Told.{code_told};
 ghost use Rattle.hlr_c.specs.declared.codes.TheConstants.{AWAY, NOT_OPEN};
 
 use crate::codes::{code_away, code_of_change};
-use crate::handle::{Hlr, with_register};
+use crate::handle::Hlr;
+use crate::journaled::change_kept;
+use crate::opened::Opened;
 use crate::rows::{HlrAccess, HlrFacility, HlrSubscriber};
 use hlr_core::{Access, Event, Facility, Letters, Number, Refusal, Subscriber, byte};
 use hlr_lent::Lender;
 use std::alloc::Global;
+
+/// Does a change in the register of an open handle: as the work does it if the register has no journal, and otherwise
+/// as `change_kept` does what is asked for. If the handle isn't open, it ends the call with `NOT_OPEN`.
+macro_rules! change_register {
+    ($handle:ident, $alloc:ident, $asked:expr, |$register:ident| $work:expr) => {{
+        let Some(mut opened) = $handle.take($alloc) else {
+            return $crate::codes::NOT_OPEN;
+        };
+        let place: &mut Opened = &mut opened;
+        if let Some(journal) = &mut place.journal {
+            let code = change_kept(&mut place.lender, journal, $asked);
+            $handle.put(opened);
+            return code;
+        }
+        let $register = &mut place.lender;
+        let code = $work;
+        $handle.put(opened);
+        code
+    }};
+}
 
 /// Checks the row that C hands in, and returns it.
 fn subscriber_of(row: &HlrSubscriber) -> Result<Subscriber, Refusal>
@@ -54,6 +80,79 @@ pub(crate) fn facility_of(row: &HlrFacility) -> Result<Facility, Refusal>
         data_a,
         data_b,
     )
+}
+
+fn location_asked(sub_nbr: u64, vlr_location: u64) -> Result<Event, Refusal>
+    ensures asked { result ≡ location_asked sub_nbr vlr_location }
+    ensures change { IfOk result (λ wanted. changes_rows wanted ≡ true) }
+{
+    Ok(Event::UpdateLocation {
+        sub_nbr: Number::try_new(sub_nbr)?,
+        vlr_location,
+    })
+}
+
+fn insertion_asked(
+    sub_nbr: u64,
+    sf_type: u64,
+    start_time: u64,
+    end_time: u64,
+    numberx: u64,
+) -> Result<Event, Refusal>
+    ensures asked { result ≡ insertion_asked sub_nbr sf_type start_time end_time numberx }
+    ensures change { IfOk result (λ wanted. changes_rows wanted ≡ true) }
+{
+    let sub_nbr = Number::try_new(sub_nbr)?;
+    let numberx = Number::try_new(numberx)?;
+    Ok(Event::InsertForwarding {
+        sub_nbr,
+        sf_type,
+        start_time,
+        end_time,
+        numberx,
+    })
+}
+
+fn deletion_asked(sub_nbr: u64, sf_type: u64, start_time: u64) -> Result<Event, Refusal>
+    ensures asked { result ≡ deletion_asked sub_nbr sf_type start_time }
+    ensures change { IfOk result (λ wanted. changes_rows wanted ≡ true) }
+{
+    Ok(Event::DeleteForwarding {
+        sub_nbr: Number::try_new(sub_nbr)?,
+        sf_type,
+        start_time,
+    })
+}
+
+fn subscriber_asked(row: &HlrSubscriber) -> Result<Event, Refusal>
+    ensures asked { result ≡ subscriber_asked row.now }
+    ensures change { IfOk result (λ wanted. changes_rows wanted ≡ true) }
+{
+    Ok(Event::AddSubscriber(subscriber_of(row)?))
+}
+
+fn access_asked(row: &HlrAccess) -> Result<Event, Refusal>
+    ensures asked { result ≡ access_asked row.now }
+    ensures change { IfOk result (λ wanted. changes_rows wanted ≡ true) }
+{
+    Ok(Event::AddAccess(access_of(row)?))
+}
+
+fn facility_asked(row: &HlrFacility) -> Result<Event, Refusal>
+    ensures asked { result ≡ facility_asked row.now }
+    ensures change { IfOk result (λ wanted. changes_rows wanted ≡ true) }
+{
+    Ok(Event::AddFacility(facility_of(row)?))
+}
+
+fn number_asked(s_id: u64, sub_nbr: u64) -> Result<Event, Refusal>
+    ensures asked { result ≡ number_asked s_id sub_nbr }
+    ensures change { IfOk result (λ wanted. changes_rows wanted ≡ true) }
+{
+    Ok(Event::SetNumber {
+        s_id,
+        sub_nbr: Number::try_new(sub_nbr)?,
+    })
 }
 
 fn update_subscriber(register: &mut Lender, s_id: u64, sf_type: u64, bit_1: u64, data_a: u64) -> u8
@@ -229,12 +328,19 @@ pub extern "C" fn hlr_update_subscriber(
     bit_1: u64,
     data_a: u64,
 ) -> u8
-    ensures { IsCall NOT_OPEN (IsAnswer (Ok (event.UpdateSubscriber s_id sf_type bit_1 data_a)) code_told AWAY)
-        handle.old.kept.register result handle.new.kept.register }
+    ensures { IsCall NOT_OPEN (IsChange (Ok (event.UpdateSubscriber s_id sf_type bit_1 data_a))) (opened_in handle.old.kept) result (opened_in handle.new.kept) }
 {
-    with_register!(handle, alloc, |register| {
-        update_subscriber(&mut register, s_id, sf_type, bit_1, data_a)
-    })
+    change_register!(
+        handle,
+        alloc,
+        Ok(Event::UpdateSubscriber {
+            s_id,
+            sf_type,
+            bit_1,
+            data_a
+        }),
+        |register| { update_subscriber(register, s_id, sf_type, bit_1, data_a) }
+    )
 }
 
 /// Does UPDATE_LOCATION (TATP, section 3.5), which sets the location of the subscriber who has a number. Its refusals,
@@ -247,12 +353,14 @@ pub extern "C" fn hlr_update_location(
     sub_nbr: u64,
     vlr_location: u64,
 ) -> u8
-    ensures { IsCall NOT_OPEN (IsAnswer (location_asked sub_nbr vlr_location) code_told AWAY)
-        handle.old.kept.register result handle.new.kept.register }
+    ensures { IsCall NOT_OPEN (IsChange (location_asked sub_nbr vlr_location)) (opened_in handle.old.kept) result (opened_in handle.new.kept) }
 {
-    with_register!(handle, alloc, |register| {
-        update_location(&mut register, sub_nbr, vlr_location)
-    })
+    change_register!(
+        handle,
+        alloc,
+        location_asked(sub_nbr, vlr_location),
+        |register| { update_location(register, sub_nbr, vlr_location) }
+    )
 }
 
 /// Does INSERT_CALL_FORWARDING (TATP, section 3.6), which adds a forwarding to a number. Its refusals, in order, are
@@ -268,19 +376,14 @@ pub extern "C" fn hlr_insert_forwarding(
     end_time: u64,
     numberx: u64,
 ) -> u8
-    ensures { IsCall NOT_OPEN (IsAnswer (insertion_asked sub_nbr sf_type start_time end_time numberx) code_told AWAY)
-        handle.old.kept.register result handle.new.kept.register }
+    ensures { IsCall NOT_OPEN (IsChange (insertion_asked sub_nbr sf_type start_time end_time numberx)) (opened_in handle.old.kept) result (opened_in handle.new.kept) }
 {
-    with_register!(handle, alloc, |register| {
-        insert_forwarding(
-            &mut register,
-            sub_nbr,
-            sf_type,
-            start_time,
-            end_time,
-            numberx,
-        )
-    })
+    change_register!(
+        handle,
+        alloc,
+        insertion_asked(sub_nbr, sf_type, start_time, end_time, numberx),
+        |register| { insert_forwarding(register, sub_nbr, sf_type, start_time, end_time, numberx,) }
+    )
 }
 
 /// Does DELETE_CALL_FORWARDING (TATP, section 3.7), which removes a forwarding. Its refusals, in order, are `NOT_OPEN`,
@@ -294,23 +397,24 @@ pub extern "C" fn hlr_delete_forwarding(
     sf_type: u64,
     start_time: u64,
 ) -> u8
-    ensures { IsCall NOT_OPEN (IsAnswer (deletion_asked sub_nbr sf_type start_time) code_told AWAY)
-        handle.old.kept.register result handle.new.kept.register }
+    ensures { IsCall NOT_OPEN (IsChange (deletion_asked sub_nbr sf_type start_time)) (opened_in handle.old.kept) result (opened_in handle.new.kept) }
 {
-    with_register!(handle, alloc, |register| {
-        delete_forwarding(&mut register, sub_nbr, sf_type, start_time)
-    })
+    change_register!(
+        handle,
+        alloc,
+        deletion_asked(sub_nbr, sf_type, start_time),
+        |register| { delete_forwarding(register, sub_nbr, sf_type, start_time) }
+    )
 }
 
 /// Adds a Subscriber row. Its refusals, in order, are `NOT_OPEN`, `Field` if a field is out of its range, `Moving`,
 /// `AWAY` if the part that would have it is lent, `Exists`, `NumberTaken`, and `Memory`.
 #[unsafe(no_mangle)]
 pub extern "C" fn hlr_add_subscriber(alloc: Global, handle: &mut Hlr, row: &HlrSubscriber) -> u8
-    ensures { IsCall NOT_OPEN (IsAnswer (subscriber_asked row.now) code_told AWAY)
-        handle.old.kept.register result handle.new.kept.register }
+    ensures { IsCall NOT_OPEN (IsChange (subscriber_asked row.now)) (opened_in handle.old.kept) result (opened_in handle.new.kept) }
 {
-    with_register!(handle, alloc, |register| {
-        add_subscriber(&mut register, row)
+    change_register!(handle, alloc, subscriber_asked(row), |register| {
+        add_subscriber(register, row)
     })
 }
 
@@ -318,21 +422,21 @@ pub extern "C" fn hlr_add_subscriber(alloc: Global, handle: &mut Hlr, row: &HlrS
 /// `AWAY`, `NoSubscriber`, `Exists`, and `Memory`.
 #[unsafe(no_mangle)]
 pub extern "C" fn hlr_add_access(alloc: Global, handle: &mut Hlr, row: &HlrAccess) -> u8
-    ensures { IsCall NOT_OPEN (IsAnswer (access_asked row.now) code_told AWAY)
-        handle.old.kept.register result handle.new.kept.register }
+    ensures { IsCall NOT_OPEN (IsChange (access_asked row.now)) (opened_in handle.old.kept) result (opened_in handle.new.kept) }
 {
-    with_register!(handle, alloc, |register| { add_access(&mut register, row) })
+    change_register!(handle, alloc, access_asked(row), |register| {
+        add_access(register, row)
+    })
 }
 
 /// Adds a Special_Facility row. Its refusals, in order, are `NOT_OPEN`, `Field` if a field is out of its range,
 /// `Moving`, `AWAY`, `NoSubscriber`, `Exists`, and `Memory`.
 #[unsafe(no_mangle)]
 pub extern "C" fn hlr_add_facility(alloc: Global, handle: &mut Hlr, row: &HlrFacility) -> u8
-    ensures { IsCall NOT_OPEN (IsAnswer (facility_asked row.now) code_told AWAY)
-        handle.old.kept.register result handle.new.kept.register }
+    ensures { IsCall NOT_OPEN (IsChange (facility_asked row.now)) (opened_in handle.old.kept) result (opened_in handle.new.kept) }
 {
-    with_register!(handle, alloc, |register| {
-        add_facility(&mut register, row)
+    change_register!(handle, alloc, facility_asked(row), |register| {
+        add_facility(register, row)
     })
 }
 
@@ -347,12 +451,18 @@ pub extern "C" fn hlr_set_active(
     sf_type: u64,
     is_active: u64,
 ) -> u8
-    ensures { IsCall NOT_OPEN (IsAnswer (Ok (event.SetActive s_id sf_type is_active)) code_told AWAY)
-        handle.old.kept.register result handle.new.kept.register }
+    ensures { IsCall NOT_OPEN (IsChange (Ok (event.SetActive s_id sf_type is_active))) (opened_in handle.old.kept) result (opened_in handle.new.kept) }
 {
-    with_register!(handle, alloc, |register| {
-        set_active(&mut register, s_id, sf_type, is_active)
-    })
+    change_register!(
+        handle,
+        alloc,
+        Ok(Event::SetActive {
+            s_id,
+            sf_type,
+            is_active
+        }),
+        |register| { set_active(register, s_id, sf_type, is_active) }
+    )
 }
 
 /// Gives a subscriber another number, and changes nothing if the subscriber has this number already. Its refusals, in
@@ -360,10 +470,9 @@ pub extern "C" fn hlr_set_active(
 /// `NoSubscriber`, `NumberTaken`, and `Memory`.
 #[unsafe(no_mangle)]
 pub extern "C" fn hlr_set_number(alloc: Global, handle: &mut Hlr, s_id: u64, sub_nbr: u64) -> u8
-    ensures { IsCall NOT_OPEN (IsAnswer (number_asked s_id sub_nbr) code_told AWAY)
-        handle.old.kept.register result handle.new.kept.register }
+    ensures { IsCall NOT_OPEN (IsChange (number_asked s_id sub_nbr)) (opened_in handle.old.kept) result (opened_in handle.new.kept) }
 {
-    with_register!(handle, alloc, |register| {
-        set_number(&mut register, s_id, sub_nbr)
+    change_register!(handle, alloc, number_asked(s_id, sub_nbr), |register| {
+        set_number(register, s_id, sub_nbr)
     })
 }

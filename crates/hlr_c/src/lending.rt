@@ -6,8 +6,8 @@ ghost use Rattle.hlr_c.specs.Inside.{IsSent};
 ghost use Rattle.hlr_c.specs.Opened.{IsClosing, IsComing, IsKept, IsLending};
 ghost use Rattle.hlr_c.specs.declared.codes.TheConstants.{NOT_OPEN};
 
-use crate::codes::{AWAY, DONE, NOT_OPEN, STILL_OPEN};
-use crate::handle::{Hlr, with_register};
+use crate::codes::{AWAY, DONE, JOURNALED, NOT_OPEN, STILL_OPEN};
+use crate::handle::{Hlr, with_opened};
 use crate::part::HlrPart;
 use hlr_core::Refusal;
 use hlr_lent::{Lender, LentPart, Sent};
@@ -43,20 +43,26 @@ fn back(register: &mut Lender, part: u64) -> u8
 }
 
 /// Lends a part to a closed handle, for any thread. Its refusals, in order, are `NOT_OPEN`, `STILL_OPEN` if that handle
-/// has a part, `NoPart`, `AWAY` if the part is lent, and `Memory`. Each of them changes nothing.
+/// has a part, `JOURNALED` if the register has a journal, `NoPart`, `AWAY` if the part is lent, and `Memory`. Each of
+/// them changes nothing.
 #[unsafe(no_mangle)]
 pub extern "C" fn hlr_lend(alloc: Global, handle: &mut Hlr, part: u64, lent: &mut HlrPart) -> u8
-    ensures { IsLending part (handle.old.kept.register, lent.old.kept.part) result (handle.new.kept.register, lent.new.kept.part) }
+    ensures lending { IsLending part handle.old.kept.journal (handle.old.kept.register, lent.old.kept.part) result (handle.new.kept.register, lent.new.kept.part) }
+    ensures journal { handle.new.kept.journal ≡ handle.old.kept.journal }
 {
-    let Some(mut register) = handle.take(alloc) else {
+    let Some(mut opened) = handle.take(alloc) else {
         return NOT_OPEN;
     };
     if lent.is_open() {
-        handle.put(register);
+        handle.put(opened);
         return STILL_OPEN;
     }
-    let out = lend(alloc, &mut register, part);
-    handle.put(register);
+    if opened.journal.is_some() {
+        handle.put(opened);
+        return JOURNALED;
+    }
+    let out = lend(alloc, &mut opened.lender, part);
+    handle.put(opened);
     match out {
         Ok(out) => {
             lent.put(out);
@@ -70,9 +76,10 @@ pub extern "C" fn hlr_lend(alloc: Global, handle: &mut Hlr, part: u64, lent: &mu
 /// `NOT_OPEN`, `NoPart`, and `AWAY` if the part wasn't sent home yet.
 #[unsafe(no_mangle)]
 pub extern "C" fn hlr_back(alloc: Global, handle: &mut Hlr, part: u64) -> u8
-    ensures { IsCall NOT_OPEN (IsComing part) handle.old.kept.register result handle.new.kept.register }
+    ensures answer { IsCall NOT_OPEN (IsComing part) handle.old.kept.register result handle.new.kept.register }
+    ensures journal { handle.new.kept.journal ≡ handle.old.kept.journal }
 {
-    with_register!(handle, alloc, |register| { back(&mut register, part) })
+    with_opened!(handle, alloc, |opened| { back(&mut opened.lender, part) })
 }
 
 /// Sends the part of a handle home as it is, if the handle has one, and closes the handle.

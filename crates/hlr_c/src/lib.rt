@@ -16,13 +16,17 @@ mod changes;
 mod codes;
 mod fields;
 mod handle;
+mod journaled;
+mod journaling;
 mod kept;
 mod kept_part;
 mod lending;
 mod listing;
 mod lists;
 mod many;
+mod opened;
 mod opening;
+mod owing;
 mod pages;
 mod part;
 mod part_changes;
@@ -35,10 +39,13 @@ mod rows;
 #[cfg(test)]
 mod tests;
 
-pub use codes::{AWAY, DONE, ELSEWHERE, NOT_OPEN, STILL_OPEN};
+pub use codes::{
+    AWAY, BAD_JOURNAL, DONE, ELSEWHERE, FAILED, JOURNALED, LOCKED, NO_JOURNAL, NOT_OPEN, STILL_OPEN,
+};
 pub use handle::Hlr;
+pub use owing::{SYNC, WRITE, ZEROS};
 pub use part::HlrPart;
 pub use rows::{
-    HlrAccess, HlrAccessAsked, HlrBounds, HlrDestinationAsked, HlrFacility, HlrForwardingRow,
-    HlrNumbers, HlrRegion, HlrRegions, HlrSubscriber,
+    HlrAccess, HlrAccessAsked, HlrBounds, HlrCall, HlrDestinationAsked, HlrFacility,
+    HlrForwardingRow, HlrNumbers, HlrRegion, HlrRegions, HlrSubscriber,
 };

@@ -110,8 +110,9 @@ fn write_next(register: &Register, from: u64, row: &mut HlrSubscriber) -> u8
 /// subscribers. Its refusals, in order, are `NOT_OPEN`, `Field` if sub_nbr isn't below 10^15, and `NoNumber`.
 #[unsafe(no_mangle)]
 pub extern "C" fn hlr_find(alloc: Global, handle: &mut Hlr, sub_nbr: u64, s_id: &mut u64) -> u8
-    ensures { IsCall (NOT_OPEN, s_id.old) (IsReadWhileOut (bearer_in sub_nbr) (value_told s_id.old))
+    ensures answer { IsCall (NOT_OPEN, s_id.old) (IsReadWhileOut (bearer_in sub_nbr) (value_told s_id.old))
         handle.old.kept.register (result, s_id.new) handle.new.kept.register }
+    ensures journal { handle.new.kept.journal ≡ handle.old.kept.journal }
 {
     with_register!(handle, alloc, |register| {
         write_bearer(register.register(), sub_nbr, s_id)
@@ -128,11 +129,12 @@ pub extern "C" fn hlr_facility_data(
     sf_type: u64,
     row: &mut HlrFacility,
 ) -> u8
-    ensures { IsCall (NOT_OPEN, row.old) (IsReadAt s_id (is_typed s_id sf_type) (facility_in s_id sf_type) (value_told row.old) (AWAY, row.old))
+    ensures answer { IsCall (NOT_OPEN, row.old) (IsReadAt s_id (is_typed s_id sf_type) (facility_in s_id sf_type) (value_told row.old) (AWAY, row.old))
         handle.old.kept.register (result, row.new) handle.new.kept.register }
+    ensures journal { handle.new.kept.journal ≡ handle.old.kept.journal }
 {
     with_register!(handle, alloc, |register| {
-        write_facility(&register, s_id, sf_type, row)
+        write_facility(register, s_id, sf_type, row)
     })
 }
 
@@ -149,11 +151,12 @@ pub extern "C" fn hlr_forwarding(
     end_time: &mut u64,
     numberx: &mut u64,
 ) -> u8
-    ensures { IsCall (NOT_OPEN, (end_time.old, numberx.old)) (IsReadAt s_id (has_key s_id sf_type start_time) (forwarding_in s_id sf_type start_time) (forwarding_told (end_time.old, numberx.old)) (AWAY, (end_time.old, numberx.old)))
+    ensures answer { IsCall (NOT_OPEN, (end_time.old, numberx.old)) (IsReadAt s_id (has_key s_id sf_type start_time) (forwarding_in s_id sf_type start_time) (forwarding_told (end_time.old, numberx.old)) (AWAY, (end_time.old, numberx.old)))
         handle.old.kept.register (result, (end_time.new, numberx.new)) handle.new.kept.register }
+    ensures journal { handle.new.kept.journal ≡ handle.old.kept.journal }
 {
     with_register!(handle, alloc, |register| {
-        write_forwarding(&register, s_id, sf_type, start_time, end_time, numberx)
+        write_forwarding(register, s_id, sf_type, start_time, end_time, numberx)
     })
 }
 
@@ -166,8 +169,9 @@ pub extern "C" fn hlr_next_subscriber(
     from: u64,
     row: &mut HlrSubscriber,
 ) -> u8
-    ensures { IsCall (NOT_OPEN, row.old) (IsAtHome (AWAY, row.old) (IsRead (subscriber_from from) (value_told row.old)))
+    ensures answer { IsCall (NOT_OPEN, row.old) (IsAtHome (AWAY, row.old) (IsRead (subscriber_from from) (value_told row.old)))
         handle.old.kept.register (result, row.new) handle.new.kept.register }
+    ensures journal { handle.new.kept.journal ≡ handle.old.kept.journal }
 {
     with_register_at_home!(handle, alloc, |register| {
         write_next(register, from, row)

@@ -149,11 +149,12 @@ pub extern "C" fn hlr_subscriber_data_many(
     rows: &mut [HlrSubscriber],
     codes: &mut [u8],
 ) -> u8
-    ensures { IsCall (NOT_OPEN, (rows.old, codes.old)) (IsManyRead IsSubscriberRead s_ids.now (rows.old, codes.old))
+    ensures answer { IsCall (NOT_OPEN, (rows.old, codes.old)) (IsManyRead IsSubscriberRead s_ids.now (rows.old, codes.old))
         handle.old.kept.register (result, (rows.new, codes.new)) handle.new.kept.register }
+    ensures journal { handle.new.kept.journal ≡ handle.old.kept.journal }
 {
     with_register!(handle, alloc, |register| {
-        ask_many(&*register, s_ids, &mut ArrayVec::new(), rows, codes)
+        ask_many(register, s_ids, &mut ArrayVec::new(), rows, codes)
     })
 }
 
@@ -168,11 +169,12 @@ pub extern "C" fn hlr_access_data_many(
     rows: &mut [HlrAccess],
     codes: &mut [u8],
 ) -> u8
-    ensures { IsCall (NOT_OPEN, (rows.old, codes.old)) (IsManyRead IsAccessRead asked.now (rows.old, codes.old))
+    ensures answer { IsCall (NOT_OPEN, (rows.old, codes.old)) (IsManyRead IsAccessRead asked.now (rows.old, codes.old))
         handle.old.kept.register (result, (rows.new, codes.new)) handle.new.kept.register }
+    ensures journal { handle.new.kept.journal ≡ handle.old.kept.journal }
 {
     with_register!(handle, alloc, |register| {
-        ask_many(&*register, asked, &mut ArrayVec::new(), rows, codes)
+        ask_many(register, asked, &mut ArrayVec::new(), rows, codes)
     })
 }
 
@@ -187,10 +189,11 @@ pub extern "C" fn hlr_new_destination_many(
     numbers: &mut [HlrNumbers],
     codes: &mut [u8],
 ) -> u8
-    ensures { IsCall (NOT_OPEN, (numbers.old, codes.old)) (IsManyRead IsDestinationRead asked.now (numbers.old, codes.old))
+    ensures answer { IsCall (NOT_OPEN, (numbers.old, codes.old)) (IsManyRead IsDestinationRead asked.now (numbers.old, codes.old))
         handle.old.kept.register (result, (numbers.new, codes.new)) handle.new.kept.register }
+    ensures journal { handle.new.kept.journal ≡ handle.old.kept.journal }
 {
     with_register!(handle, alloc, |register| {
-        ask_many(&*register, asked, &mut ArrayVec::new(), numbers, codes)
+        ask_many(register, asked, &mut ArrayVec::new(), numbers, codes)
     })
 }

@@ -156,8 +156,9 @@ pub extern "C" fn hlr_next_subscribers(
     rows: &mut [HlrSubscriber],
     count: &mut u64,
 ) -> u8
-    ensures { IsCall (NOT_OPEN, (rows.old, count.old)) (IsAtHome (AWAY, (rows.old, count.old)) (IsPage (subscribers_from s_id) rows.old))
+    ensures answer { IsCall (NOT_OPEN, (rows.old, count.old)) (IsAtHome (AWAY, (rows.old, count.old)) (IsPage (subscribers_from s_id) rows.old))
         handle.old.kept.register (result, (rows.new, count.new)) handle.new.kept.register }
+    ensures journal { handle.new.kept.journal ≡ handle.old.kept.journal }
 {
     with_register_at_home!(handle, alloc, |register| {
         write_subscribers(register, s_id, rows, count)
@@ -175,8 +176,9 @@ pub extern "C" fn hlr_next_accesses(
     rows: &mut [HlrAccess],
     count: &mut u64,
 ) -> u8
-    ensures { IsCall (NOT_OPEN, (rows.old, count.old)) (IsAtHome (AWAY, (rows.old, count.old)) (IsPage (access_from s_id ai_type) rows.old))
+    ensures answer { IsCall (NOT_OPEN, (rows.old, count.old)) (IsAtHome (AWAY, (rows.old, count.old)) (IsPage (access_from s_id ai_type) rows.old))
         handle.old.kept.register (result, (rows.new, count.new)) handle.new.kept.register }
+    ensures journal { handle.new.kept.journal ≡ handle.old.kept.journal }
 {
     with_register_at_home!(handle, alloc, |register| {
         write_accesses(register, s_id, ai_type, rows, count)
@@ -194,8 +196,9 @@ pub extern "C" fn hlr_next_facilities(
     rows: &mut [HlrFacility],
     count: &mut u64,
 ) -> u8
-    ensures { IsCall (NOT_OPEN, (rows.old, count.old)) (IsAtHome (AWAY, (rows.old, count.old)) (IsPage (facilities_from s_id sf_type) rows.old))
+    ensures answer { IsCall (NOT_OPEN, (rows.old, count.old)) (IsAtHome (AWAY, (rows.old, count.old)) (IsPage (facilities_from s_id sf_type) rows.old))
         handle.old.kept.register (result, (rows.new, count.new)) handle.new.kept.register }
+    ensures journal { handle.new.kept.journal ≡ handle.old.kept.journal }
 {
     with_register_at_home!(handle, alloc, |register| {
         write_facilities(register, s_id, sf_type, rows, count)
@@ -214,8 +217,9 @@ pub extern "C" fn hlr_next_forwardings(
     rows: &mut [HlrForwardingRow],
     count: &mut u64,
 ) -> u8
-    ensures { IsCall (NOT_OPEN, (rows.old, count.old)) (IsAtHome (AWAY, (rows.old, count.old)) (IsPage (forwardings_from s_id sf_type start_time) rows.old))
+    ensures answer { IsCall (NOT_OPEN, (rows.old, count.old)) (IsAtHome (AWAY, (rows.old, count.old)) (IsPage (forwardings_from s_id sf_type start_time) rows.old))
         handle.old.kept.register (result, (rows.new, count.new)) handle.new.kept.register }
+    ensures journal { handle.new.kept.journal ≡ handle.old.kept.journal }
 {
     with_register_at_home!(handle, alloc, |register| {
         write_forwardings(register, s_id, sf_type, start_time, rows, count)
@@ -232,8 +236,9 @@ fn write_width(register: &Register, width: &mut u64) -> u8
 /// Tells the width of a zone, 1..=524,288, whoever is out. `NOT_OPEN`.
 #[unsafe(no_mangle)]
 pub extern "C" fn hlr_width(alloc: Global, handle: &mut Hlr, width: &mut u64) -> u8
-    ensures { IsCall (NOT_OPEN, width.old) IsWidthTold
+    ensures answer { IsCall (NOT_OPEN, width.old) IsWidthTold
         handle.old.kept.register (result, width.new) handle.new.kept.register }
+    ensures journal { handle.new.kept.journal ≡ handle.old.kept.journal }
 {
     with_register!(handle, alloc, |register| {
         write_width(register.register(), width)

@@ -7,7 +7,7 @@ ghost use Rattle.hlr_c.specs.Told.{code_told, given_told, part_told, posted_told
 ghost use Rattle.hlr_c.specs.declared.codes.TheConstants.{AWAY, NOT_OPEN};
 
 use crate::codes::{AWAY, DONE, code_away, code_of_reply};
-use crate::handle::{Hlr, with_register};
+use crate::handle::{Hlr, with_opened};
 use crate::lists::{bounds_in, region_for_c};
 use crate::rows::{HlrBounds, HlrRegion};
 use hlr_core::{Event, Place, Refusal, Region, Reply, Side};
@@ -155,11 +155,12 @@ pub extern "C" fn hlr_post(
     limit: u64,
     posted: &mut u64,
 ) -> u8
-    ensures { IsCall (NOT_OPEN, posted.old) (IsAnswer (Ok (event.Post part limit)) (posted_told posted.old) (AWAY, posted.old))
+    ensures answer { IsCall (NOT_OPEN, posted.old) (IsAnswer (Ok (event.Post part limit)) (posted_told posted.old) (AWAY, posted.old))
         handle.old.kept.register (result, posted.new) handle.new.kept.register }
+    ensures journal { handle.new.kept.journal ≡ handle.old.kept.journal }
 {
-    with_register!(handle, alloc, |register| {
-        post(&mut register, part, limit, posted)
+    with_opened!(handle, alloc, |opened| {
+        post(&mut opened.lender, part, limit, posted)
     })
 }
 
@@ -175,11 +176,12 @@ pub extern "C" fn hlr_give(
     at: u64,
     given: &mut HlrRegion,
 ) -> u8
-    ensures { IsCall (NOT_OPEN, given.old) (IsAnswer (give_asked part side at) (given_told given.old) (AWAY, given.old))
+    ensures answer { IsCall (NOT_OPEN, given.old) (IsAnswer (give_asked part side at) (given_told given.old) (AWAY, given.old))
         handle.old.kept.register (result, given.new) handle.new.kept.register }
+    ensures journal { handle.new.kept.journal ≡ handle.old.kept.journal }
 {
-    with_register!(handle, alloc, |register| {
-        give(&mut register, part, side, at, given)
+    with_opened!(handle, alloc, |opened| {
+        give(&mut opened.lender, part, side, at, given)
     })
 }
 
@@ -187,11 +189,12 @@ pub extern "C" fn hlr_give(
 /// `NotAdjacent`, `AWAY` if the part is lent, and `Memory`.
 #[unsafe(no_mangle)]
 pub extern "C" fn hlr_take(alloc: Global, handle: &mut Hlr, piece: u64, part: u64) -> u8
-    ensures { IsCall NOT_OPEN (IsAnswer (Ok (event.Take piece part)) code_told AWAY)
+    ensures answer { IsCall NOT_OPEN (IsAnswer (Ok (event.Take piece part)) code_told AWAY)
         handle.old.kept.register result handle.new.kept.register }
+    ensures journal { handle.new.kept.journal ≡ handle.old.kept.journal }
 {
-    with_register!(handle, alloc, |register| {
-        take(&mut register, piece, part)
+    with_opened!(handle, alloc, |opened| {
+        take(&mut opened.lender, piece, part)
     })
 }
 
@@ -206,11 +209,12 @@ pub extern "C" fn hlr_divide(
     at: u64,
     made: &mut HlrRegion,
 ) -> u8
-    ensures { IsCall (NOT_OPEN, made.old) (IsAnswer (Ok (event.Divide part at)) (part_told made.old) (AWAY, made.old))
+    ensures answer { IsCall (NOT_OPEN, made.old) (IsAnswer (Ok (event.Divide part at)) (part_told made.old) (AWAY, made.old))
         handle.old.kept.register (result, made.new) handle.new.kept.register }
+    ensures journal { handle.new.kept.journal ≡ handle.old.kept.journal }
 {
-    with_register!(handle, alloc, |register| {
-        divide(&mut register, part, at, made)
+    with_opened!(handle, alloc, |opened| {
+        divide(&mut opened.lender, part, at, made)
     })
 }
 
@@ -224,11 +228,12 @@ pub extern "C" fn hlr_dissolve(
     part: u64,
     front: &mut HlrRegion,
 ) -> u8
-    ensures { IsCall (NOT_OPEN, front.old) (IsAnswer (Ok (event.Dissolve part)) (part_told front.old) (AWAY, front.old))
+    ensures answer { IsCall (NOT_OPEN, front.old) (IsAnswer (Ok (event.Dissolve part)) (part_told front.old) (AWAY, front.old))
         handle.old.kept.register (result, front.new) handle.new.kept.register }
+    ensures journal { handle.new.kept.journal ≡ handle.old.kept.journal }
 {
-    with_register!(handle, alloc, |register| {
-        dissolve(&mut register, part, front)
+    with_opened!(handle, alloc, |opened| {
+        dissolve(&mut opened.lender, part, front)
     })
 }
 
@@ -244,10 +249,11 @@ pub extern "C" fn hlr_recut(
     bounds: &HlrBounds,
     moved: &mut u64,
 ) -> u8
-    ensures { IsCall (NOT_OPEN, moved.old) (IsRecutAnswer (bounds_in bounds.now) (recut_told moved.old) (AWAY, moved.old))
+    ensures answer { IsCall (NOT_OPEN, moved.old) (IsRecutAnswer (bounds_in bounds.now) (recut_told moved.old) (AWAY, moved.old))
         handle.old.kept.register (result, moved.new) handle.new.kept.register }
+    ensures journal { handle.new.kept.journal ≡ handle.old.kept.journal }
 {
-    with_register!(handle, alloc, |register| {
-        recut(&mut register, bounds, moved)
+    with_opened!(handle, alloc, |opened| {
+        recut(&mut opened.lender, bounds, moved)
     })
 }

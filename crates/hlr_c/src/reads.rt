@@ -218,11 +218,12 @@ pub extern "C" fn hlr_subscriber_data(
     s_id: u64,
     row: &mut HlrSubscriber,
 ) -> u8
-    ensures { IsCall (NOT_OPEN, row.old) (IsAnswer (Ok (event.SubscriberData s_id)) (subscriber_told row.old) (AWAY, row.old))
+    ensures answer { IsCall (NOT_OPEN, row.old) (IsAnswer (Ok (event.SubscriberData s_id)) (subscriber_told row.old) (AWAY, row.old))
         handle.old.kept.register (result, row.new) handle.new.kept.register }
+    ensures journal { handle.new.kept.journal ≡ handle.old.kept.journal }
 {
     with_register!(handle, alloc, |register| {
-        ask_subscriber(&register, s_id, row)
+        ask_subscriber(register, s_id, row)
     })
 }
 
@@ -236,11 +237,12 @@ pub extern "C" fn hlr_access_data(
     ai_type: u64,
     row: &mut HlrAccess,
 ) -> u8
-    ensures { IsCall (NOT_OPEN, row.old) (IsAnswer (Ok (event.AccessData s_id ai_type)) (access_told s_id ai_type row.old) (AWAY, row.old))
+    ensures answer { IsCall (NOT_OPEN, row.old) (IsAnswer (Ok (event.AccessData s_id ai_type)) (access_told s_id ai_type row.old) (AWAY, row.old))
         handle.old.kept.register (result, row.new) handle.new.kept.register }
+    ensures journal { handle.new.kept.journal ≡ handle.old.kept.journal }
 {
     with_register!(handle, alloc, |register| {
-        ask_access(&register, s_id, ai_type, row)
+        ask_access(register, s_id, ai_type, row)
     })
 }
 
@@ -258,10 +260,11 @@ pub extern "C" fn hlr_new_destination(
     end_time: u64,
     numbers: &mut HlrNumbers,
 ) -> u8
-    ensures { IsCall (NOT_OPEN, numbers.old) (IsAnswer (Ok (event.NewDestination s_id sf_type start_time end_time)) (numbers_told numbers.old) (AWAY, numbers.old))
+    ensures answer { IsCall (NOT_OPEN, numbers.old) (IsAnswer (Ok (event.NewDestination s_id sf_type start_time end_time)) (numbers_told numbers.old) (AWAY, numbers.old))
         handle.old.kept.register (result, numbers.new) handle.new.kept.register }
+    ensures journal { handle.new.kept.journal ≡ handle.old.kept.journal }
 {
     with_register!(handle, alloc, |register| {
-        ask_destinations(&register, s_id, sf_type, start_time, end_time, numbers)
+        ask_destinations(register, s_id, sf_type, start_time, end_time, numbers)
     })
 }

@@ -9,7 +9,7 @@ ghost use Rattle.hlr_c.specs.Reports.{AreCounts, AreListed, AreProposed, AreView
 ghost use Rattle.hlr_c.specs.declared.codes.TheConstants.{AWAY, NOT_OPEN};
 
 use crate::codes::DONE;
-use crate::handle::{Hlr, with_register, with_register_at_home};
+use crate::handle::{Hlr, with_opened, with_register, with_register_at_home};
 use crate::lists::{bounds_for_c, regions_for_c};
 use crate::rows::{HlrBounds, HlrRegions};
 use hlr_core::{CELLS, Cells, Register, Sight, WORDS};
@@ -99,8 +99,9 @@ pub extern "C" fn hlr_views(
     published: &mut [i64; CELLS as usize],
     unposted: &mut [i64; CELLS as usize],
 ) -> u8
-    ensures { IsCall (NOT_OPEN, (published.old, unposted.old)) (IsAtHome (AWAY, (published.old, unposted.old)) (λ before. IsReport (AreViews before) before))
+    ensures answer { IsCall (NOT_OPEN, (published.old, unposted.old)) (IsAtHome (AWAY, (published.old, unposted.old)) (λ before. IsReport (AreViews before) before))
         handle.old.kept.register (result, (published.new, unposted.new)) handle.new.kept.register }
+    ensures journal { handle.new.kept.journal ≡ handle.old.kept.journal }
 {
     with_register_at_home!(handle, alloc, |register| {
         write_views(register, published, unposted);
@@ -117,9 +118,12 @@ pub extern "C" fn hlr_look(
     handle: &mut Hlr,
     published: &mut [i64; CELLS as usize],
 ) -> u8
-    ensures { IsCall (NOT_OPEN, published.old) IsLook handle.old.kept.register (result, published.new) handle.new.kept.register }
+    ensures answer { IsCall (NOT_OPEN, published.old) IsLook handle.old.kept.register (result, published.new) handle.new.kept.register }
+    ensures journal { handle.new.kept.journal ≡ handle.old.kept.journal }
 {
-    with_register!(handle, alloc, |register| { look(&mut register, published) })
+    with_opened!(handle, alloc, |opened| {
+        look(&mut opened.lender, published)
+    })
 }
 
 /// Counts each cell anew by a walk over all rows. Its refusals, in order, are `NOT_OPEN` and `AWAY` if any part is
@@ -130,8 +134,9 @@ pub extern "C" fn hlr_scan(
     handle: &mut Hlr,
     counts: &mut [u64; CELLS as usize],
 ) -> u8
-    ensures { IsCall (NOT_OPEN, counts.old) (IsAtHome (AWAY, counts.old) (λ before. IsReport (AreCounts before) before))
+    ensures answer { IsCall (NOT_OPEN, counts.old) (IsAtHome (AWAY, counts.old) (λ before. IsReport (AreCounts before) before))
         handle.old.kept.register (result, counts.new) handle.new.kept.register }
+    ensures journal { handle.new.kept.journal ≡ handle.old.kept.journal }
 {
     with_register_at_home!(handle, alloc, |register| {
         write_counts(register, counts);
@@ -143,8 +148,9 @@ pub extern "C" fn hlr_scan(
 /// open.
 #[unsafe(no_mangle)]
 pub extern "C" fn hlr_regions(alloc: Global, handle: &mut Hlr, regions: &mut HlrRegions) -> u8
-    ensures { IsCall (NOT_OPEN, regions.old) (λ before. IsReport (AreListed before) before)
+    ensures answer { IsCall (NOT_OPEN, regions.old) (λ before. IsReport (AreListed before) before)
         handle.old.kept.register (result, regions.new) handle.new.kept.register }
+    ensures journal { handle.new.kept.journal ≡ handle.old.kept.journal }
 {
     with_register!(handle, alloc, |register| {
         write_regions(register.register(), regions);
@@ -156,8 +162,9 @@ pub extern "C" fn hlr_regions(alloc: Global, handle: &mut Hlr, regions: &mut Hlr
 /// of the zones. Its refusals, in order, are `NOT_OPEN` and `AWAY` if any part is lent.
 #[unsafe(no_mangle)]
 pub extern "C" fn hlr_propose(alloc: Global, handle: &mut Hlr, bounds: &mut HlrBounds) -> u8
-    ensures { IsCall (NOT_OPEN, bounds.old) (IsAtHome (AWAY, bounds.old) (λ before. IsReport (AreProposed before) before))
+    ensures answer { IsCall (NOT_OPEN, bounds.old) (IsAtHome (AWAY, bounds.old) (λ before. IsReport (AreProposed before) before))
         handle.old.kept.register (result, bounds.new) handle.new.kept.register }
+    ensures journal { handle.new.kept.journal ≡ handle.old.kept.journal }
 {
     with_register_at_home!(handle, alloc, |register| {
         write_proposal(register, bounds);

@@ -237,6 +237,20 @@ pub struct HlrBounds {
     pub bounds: [u64; 15],
 }
 
+/// A call on the file of a journal, which C has to make.
+#[repr(C)]
+#[derive(Clone, Copy, Debug, PartialEq, Eq)]
+pub struct HlrCall {
+    /// What to do: `WRITE`, `ZEROS` or `SYNC`, or 0 if no call is owed.
+    pub kind: u32,
+    /// The descriptor of the file.
+    pub fd: i32,
+    /// Where the call begins to write.
+    pub from: u64,
+    /// Where it ends.
+    pub to: u64,
+}
+
 // hlr.h declares these for C, where they have the same sizes.
 const _: () = prove!(size_of::<HlrSubscriber>() == 64);
 
@@ -257,3 +271,5 @@ const _: () = prove!(size_of::<HlrRegion>() == 32);
 const _: () = prove!(size_of::<HlrRegions>() == 1032);
 
 const _: () = prove!(size_of::<HlrBounds>() == 128);
+
+const _: () = prove!(size_of::<HlrCall>() == 24);

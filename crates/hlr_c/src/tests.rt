@@ -7,6 +7,7 @@ use crate::changes::{
 };
 use crate::codes::{DONE, NOT_OPEN, STILL_OPEN};
 use crate::handle::Hlr;
+use crate::opened::Opened;
 use crate::opening::{hlr_close, hlr_open};
 use crate::parts::{hlr_dissolve, hlr_divide, hlr_give, hlr_post, hlr_recut, hlr_take};
 use crate::reads::{hlr_access_data, hlr_new_destination, hlr_subscriber_data};
@@ -22,6 +23,7 @@ use std::test::Fail;
 
 mod drawn;
 mod drawn_lending;
+mod journals;
 mod lent;
 mod pages;
 
@@ -258,10 +260,14 @@ fn opened_worn(alloc: Global) -> Result<Hlr, Refusal> {
     let mut words = [0; WORDS];
     words[41] = LIMIT;
     words[usize::from(CELLS) + 41] = LIMIT;
-    let register = Lender::of(Register::open_from(alloc, 2, 4, &words)?);
-    let register = Box::new(alloc, register)?;
+    let lender = Lender::of(Register::open_from(alloc, 2, 4, &words)?);
+    let opened = Opened {
+        lender,
+        journal: None,
+    };
+    let opened = Box::new(alloc, opened)?;
     let mut handle = Hlr::closed();
-    handle.put(register);
+    handle.put(opened);
     Ok(handle)
 }
 

@@ -1,5 +1,6 @@
 # The calls for C, each with its result, its parameters and its refusals in order, one a line: of hlr.h, by its lines
-# `Refusals:`, or of the sources in crates/hlr_c/src, by the names in backquotes in a call's comment. The two are the same.
+# `Refusals:`, or of the sources in crates/hlr_c/src, by the names in backquotes in a call's comment. The two are the same,
+# apart from those of hlr_file.c, which are left out, because that is a source in C.
 #
 #   awk -f calls.awk crates/hlr_c/hlr.h
 #   awk -f calls.awk crates/hlr_c/src/*.rt
@@ -38,13 +39,14 @@ function call(text, result, refusals,   name, count, list, i, parameters) {
 /^ \* Refusals: / { listed = substr($0, 14) }
 /^[a-z0-9_]+ hlr_[a-z_]*\(/ { declared = ""; result = $1; in_header = 1 }
 in_header { gsub(/  +/, " "); declared = declared $0 }
+in_header && /;$/ && declared ~ / hlr_(file_[a-z_]*|journal|snapshot|sync|journal_end)\(/ { in_header = 0 }
 in_header && /;$/ { sub(/\*rows, size_t room/, "*rows, size_t rows_count", declared); call(declared, result, listed); listed = ""; in_header = 0 }
 
-# of the sources; all but hlr_open answer NOT_OPEN first
+# of the sources; all but those that open a handle answer NOT_OPEN first
 function named(about,   count, words, i, refusals) {
   count = split(about, words, /`/)
   for (i = 2; i <= count; i += 2)
-    if (words[i] ~ /^[A-Z]/ && words[i] != "NOT_OPEN")
+    if (words[i] ~ /^[A-Z]/ && words[i] !~ /^(NOT_OPEN|DONE)$/)
       refusals = refusals (refusals ? ", " : "") (words[i] ~ /[a-z]/ ? snake(words[i]) : words[i])
   return refusals
 }

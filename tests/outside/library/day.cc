@@ -12,7 +12,7 @@ using hlrpp::store;
 
 static_assert(!std::is_copy_constructible_v<store> && !std::is_copy_assignable_v<store>);
 static_assert(std::is_nothrow_move_constructible_v<store> && std::is_nothrow_move_assignable_v<store>);
-static_assert(sizeof(store) == sizeof(hlr));
+static_assert(sizeof(store) == sizeof(hlr) + sizeof(hlr_file));
 
 static void told(const char *asked, code answered) { std::printf("%s: %s\n", asked, hlrpp::name(answered)); }
 

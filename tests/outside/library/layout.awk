@@ -1,5 +1,5 @@
 # What hlr.h has to agree with, as lines for layout.c: the layout of each struct that C is passed, each code, and the
-# constants. Reads rows.rt, kept.rt, kept_part.rt, handle.rt, part.rt and codes.rt of crates/hlr_c/src, refusal.rt and
+# constants. Reads rows.rt, kept.rt, kept_part.rt, handle.rt, part.rt, owing.rt and codes.rt of crates/hlr_c/src, refusal.rt and
 # ranges.rt of crates/tatp_rows/src, cells.rt of crates/tatp_actions/src, and region.rt and bounds.rt of
 # crates/part_table/src, in this order.
 #
@@ -8,12 +8,13 @@
 # `prove!` says of a size is the compiler's own word, and has its line too.
 BEGIN {
   size["u8"] = align["u8"] = 1
+  size["u32"] = align["u32"] = size["i32"] = align["i32"] = 4
   size["u64"] = align["u64"] = size["*mut u8"] = align["*mut u8"] = 8
-  structs = split("Hlr HlrPart HlrSubscriber HlrAccess HlrFacility HlrForwardingRow HlrAccessAsked HlrDestinationAsked HlrNumbers HlrRegion HlrRegions HlrBounds", list, " ")
+  structs = split("Hlr HlrPart HlrSubscriber HlrAccess HlrFacility HlrForwardingRow HlrAccessAsked HlrDestinationAsked HlrNumbers HlrRegion HlrRegions HlrBounds HlrCall", list, " ")
   for (i in list) name[list[i]] = snake(list[i])
   name["HlrRegions"] = "hlr_region_list"
   constants = split("LAST_SUBSCRIBER MAX_S_ID GREATEST_WIDTH MAX_WIDTH MOST_PARTS MAX_PARTS MOST_PIECES MAX_PIECES " \
-    "FIRST_AREA AREA_CELL FIRST_ZONE ZONE_CELL ZONES ZONES", list, " ") / 2
+    "FIRST_AREA AREA_CELL FIRST_ZONE ZONE_CELL ZONES ZONES WRITE TAPE_WRITE ZEROS TAPE_ZEROS SYNC TAPE_SYNC", list, " ") / 2
   for (i = 1; i <= 2 * constants; i += 2) c_name[list[i]] = list[i + 1]
 }
 function snake(camel) { gsub(/[A-Z]/, "_&", camel); return tolower(substr(camel, 2)) }
@@ -53,7 +54,7 @@ struct && /^}/ {
   if (proved in name) { print "SIZE(" name[proved] ", " $(NF) + 0 ", " align[proved] ")"; sized++ }
 }
 
-/^pub const (DONE|ELSEWHERE|AWAY|NOT_OPEN|STILL_OPEN|CELLS): u8 = [0-9]+;/ {
+/^pub const (DONE|LOCKED|BAD_JOURNAL|FAILED|JOURNALED|NO_JOURNAL|ELSEWHERE|AWAY|NOT_OPEN|STILL_OPEN|CELLS): u8 = [0-9]+;/ {
   sub(/:/, "", $3)
   print "IS(" $3 ", " $NF + 0 ")"; numbers++
 }
@@ -70,6 +71,6 @@ struct && /^}/ {
 }
 END {
   if (laid != structs || sized != structs) unknown("layout of " structs " structs")
-  if (numbers != 24) unknown("23 codes and the cells")
+  if (numbers != 29) unknown("28 codes and the cells")
   if (found != constants) unknown(constants " constants")
 }

@@ -1,5 +1,5 @@
 -- `unseal`: the address has its type again, and with the allocator it makes the parts.
-use Rattle.hlr_c.proofs.Common.{◌≡◌, subst, sym, List, [], ◌∷◌, ◌++◌, refl, None, Some, ◌≢◌, Goes-blank, handle_tells, leaves, proved_at, allocator, pair, pair_fits, parts_in}
+use Rattle.hlr_c.proofs.Common.{◌≡◌, subst, sym, List, [], ◌∷◌, ◌++◌, refl, Option, None, Some, ◌≢◌, OwnersState, FileJournal, IsJournaled, Goes-blank, handle_tells, leaves, proved_at, allocator, pair, pair_fits, parts_in}
 use base.Fml.{ftrue}
 use base.Logic.{SProp, emp, ent, id⊢}
 use contract.Monad.{fact, fact_i}
@@ -19,12 +19,16 @@ use types.Run.{and_then, enter, fld, no_more, of_opd, returns, stop}
 use Rattle.std.proofs.alloc.Global.TheLaws.{the_row_laws as global_laws}
 use Rattle.std.specs.contracts.alloc.Global.{the_row as Global}
 use Rattle.std.specs.contracts.impls.GlobalAllocator.TheImpl.{ghosts as of_global}
-use Rattle.hlr_lent.specs.contracts.lender.Lender.{the_row as Lender}
-use Rattle.hlr_c.proofs.KeptSteps.{found, kept_out, word}
+use Rattle.hlr_c.specs.contracts.opened.Opened.{the_row as Opened}
+use Rattle.hlr_c.proofs.KeptSteps.{both, found, kept_out, word}
 use Rattle.hlr_c.proofs.kept.Kept.unseal.Code as code
 use Rattle.hlr_c.proofs.kept.Kept.unseal.Statement.{statement}
 use Rattle.hlr_c.specs.contracts.kept.Kept.{the_row as Kept}
 use Rattle.hlr_c.specs.contracts.kept.Kept.unseal as f
+
+-- what the contract says of the register and the journal
+abbrev Keeps : Option OwnersState → Option FileJournal → OwnersState → Option FileJournal → Type 0
+Keeps register journal x j = (register ≡ Some x) × (journal ≡ j) × IsJournaled x j
 
 pub unseal_spec : {M : Type 1} → statement M
 unseal_spec 𝓤 𝓛 𝓜 𝓡 wired =
@@ -41,12 +45,13 @@ unseal_spec 𝓤 𝓛 𝓜 𝓡 wired =
     qed 𝓛 ((‵ ftrue ⊛ ‵ (owns (types_at f.ended.signature.params z.0.0) z.0.3 z.0.4)) ∷ raw ((c z.0.0 z.0.3).requires z.1) ∷ []) ∵
     move ! (1 ∷ []) $ heard ! (kept.register ≢ None) (λ some.
     let x = (found kept.register some).0 in let is = (found kept.register some).1 in
-    let is_kept = fact_i 𝓤 (kept.register ≡ Some x) (emp 𝓤) is in
-    split ! $ move ! (1 ∷ []) $ fsplit ! $ kept_out ! kept x is z.0.4.0 (λ heap b o words.
+    let j = kept.journal in
+    split ! $ move ! (1 ∷ []) $ fsplit ! $ kept_out ! kept x is z.0.4.0 (λ journaled heap b o words.
+    let is_kept = fact_i 𝓤 (Keeps kept.register kept.journal x j) (emp 𝓤) (is, refl, journaled) in
     move ! (1 ∷ []) $ fsplit ! $
-    handle_tells (allocator Lender Global global_laws of_global) ! a z.0.4.1.0 (λ h is_alloc fits. move ! (2 ∷ 0 ∷ []) $
+    handle_tells (allocator Opened Global global_laws of_global) ! a z.0.4.1.0 (λ h is_alloc fits. move ! (2 ∷ 0 ∷ []) $
     -- [the block; the allocator]
-    let made : Val = pair (vptr b o) h in let typed = pair_fits Lender Global global_laws of_global b o h fits in
+    let made : Val = pair (vptr b o) h in let typed = pair_fits Opened Global global_laws of_global b o h fits in
     let passed : List Val = word (vptr b o) ∷ h ∷ [] in
     suffices ! (Run passed) (subst (λ (us : List Val). ent 𝓤 (Run passed) (Run us)) (sym (λ i. words i ++ (is_alloc i ++ []))) (id⊢ 𝓤 (Run passed))) $
     enter ! 𝓣.C 𝓣.Λ code.function passed Post $ alloc_all ! (λ l. pass_all ! refl ((tt, (tt, tt)), (fits, tt)) $
@@ -54,7 +59,7 @@ unseal_spec 𝓤 𝓛 𝓜 𝓡 wired =
     sets ! (of_opd ! (get_in ! (fld ! refl (stop !)) (sub ! 0 refl (whole !)))) refl (tt, tt) $
     sets ! (of_opd ! (get ! refl)) refl (tt, tt) $
     sets ! (agg ! (and_then ! (get ! refl) (and_then ! (get ! refl) (no_more !)))) refl typed $
-    parts_in Lender Global global_laws of_global ! b o h a x $
-    use0 𝓛 (raw (fact 𝓤 (kept.register ≡ Some x))) is_kept $ nothing ! $ nothing ! $ fjoin ! $ nothing ! $ fjoin ! $
+    parts_in Opened Global global_laws of_global ! b o h a (both x j) $
+    use0 𝓛 (raw (fact 𝓤 (Keeps kept.register kept.journal x j))) is_kept $ nothing ! $ nothing ! $ fjoin ! $ nothing ! $ fjoin ! $
     returns ! (look_at ! 0 refl) $ free_all ! refl $ keep ! (4 ∷ 0 ∷ 2 ∷ 1 ∷ []) $
-    by ! (leaves 𝓛 f.ended stays c z made (record { address = block_ptr b o; alloc = a; value = x }) (tt, (tt, tt)) (tt, (tt, tt))))))))
+    by ! (leaves 𝓛 f.ended stays c z made (record { address = block_ptr b o; alloc = a; value = both x j }) (tt, (tt, tt)) (tt, (tt, tt))))))))
