@@ -13,7 +13,7 @@ trap 'rm -rf "$room"' EXIT
 python3 bench/tatp_load.py "${1:-20000}" 0 | grep -v views > "$room/records"
 echo "$(wc -l < "$room/records") records, $(wc -c < "$room/records") bytes"
 gcc -O2 -Icrates/hlr_c -Iexamples/library bench/backup.c "$library" "$kit" -o "$room/backup"
-gcc -shared -Wl,--whole-archive "$library" -Wl,--no-whole-archive "$kit" -o "$room/libhlr.so.1"
+gcc -shared -fPIC -Icrates/hlr_c crates/hlr_c/hlr_file.c -Wl,--whole-archive "$library" -Wl,--no-whole-archive "$kit" -o "$room/libhlr.so.1"
 cat > "$room/backup.py" << 'END'
 import sys, time, hlr
 start = time.process_time()
