@@ -89,11 +89,7 @@ fn beside_old(current: Journal<Relayed>, old: Option<FileJournal>) -> FileJourna
 
 /// Writes a register as its journal into a file of zeros, and keeps the journal that it had. Gives up as
 /// `snapshot_relayed` does.
-fn write_snapshot(
-    alloc: Global,
-    opened: &mut Opened,
-    fd: i32,
-) -> Result<(), JournalFault>
+fn write_snapshot(alloc: Global, opened: &mut Opened, fd: i32) -> Result<(), JournalFault>
     requires home { AllHome opened.old.lender.owners }
     requires journaled { IsJournaled opened.old.lender opened.old.journal }
     ensures journaled { IsJournaled opened.new.lender opened.new.journal }
@@ -296,9 +292,11 @@ pub extern "C" fn hlr_tape_owed(
 ) -> u8
     ensures { IsCall (NOT_OPEN, (bytes.old, call.old)) (IsOwedTold index skip (bytes.old, call.old)) (opened_in handle.old.kept) (result, (bytes.new, call.new)) (opened_in handle.new.kept) }
 {
-    with_opened!(handle, alloc, |opened| tell_owed(
-        &opened, index, skip, bytes, call
-    ))
+    with_opened!(
+        handle,
+        alloc,
+        |opened| tell_owed(&opened, index, skip, bytes, call)
+    )
 }
 
 /// Says that C has made all calls that it owed, or, with 0, that one of them has failed. Its refusals, in order, are

@@ -6,8 +6,8 @@ use crate::changes::{hlr_set_number, hlr_update_location};
 use crate::codes::{AWAY, BAD_JOURNAL, DONE, FAILED, JOURNALED, NO_JOURNAL, NOT_OPEN, STILL_OPEN};
 use crate::handle::Hlr;
 use crate::journaling::{
-    hlr_tape_end, hlr_tape_made, hlr_tape_open, hlr_tape_owed, hlr_tape_reserve,
-    hlr_tape_snapshot, hlr_tape_sync, hlr_unsynced,
+    hlr_tape_end, hlr_tape_made, hlr_tape_open, hlr_tape_owed, hlr_tape_reserve, hlr_tape_snapshot,
+    hlr_tape_sync, hlr_unsynced,
 };
 use crate::lending::{hlr_back, hlr_home, hlr_lend};
 use crate::opening::hlr_close;
@@ -102,13 +102,7 @@ fn carried(alloc: Global, handle: &mut Hlr, file: &mut TestFile, code: u8) -> u8
     carry(alloc, handle, file)
 }
 
-fn journal(
-    alloc: Global,
-    handle: &mut Hlr,
-    file: &mut TestFile,
-    parts: u64,
-    width: u64,
-) -> u8 {
+fn journal(alloc: Global, handle: &mut Hlr, file: &mut TestFile, parts: u64, width: u64) -> u8 {
     let code = hlr_tape_open(alloc, handle, 7, &file.bytes, parts, width);
     carried(alloc, handle, file, code)
 }
@@ -195,7 +189,10 @@ fn calls_are_handed_over_in_order(rt: HostRuntime) -> Result<(), Fail> {
     assert_eq!(rt; (begun, added, synced), (DONE, [DONE; 5], DONE));
     assert_eq!(rt; codes, [DONE, DONE, DONE, FAILED, DONE, DONE]);
     let kinds = [calls[0].kind, calls[1].kind, calls[2].kind];
-    assert_eq!(rt; (kinds, calls[0].fd, calls[0].from), ([WRITE, SYNC, 0], 7, 14));
+    assert_eq!(rt;
+        (kinds, calls[0].fd, calls[0].from),
+        ([WRITE, SYNC, 0], 7, 14)
+    );
     assert!(rt; calls[0].to > 14 && file.bytes.starts_with(b"hlr journal 1\n"));
     assert!(rt; ZEROS != WRITE && bytes.iter().all(|byte| *byte != b'-'));
     Ok(())
@@ -273,17 +270,7 @@ fn a_register_that_lends_has_no_journal(rt: HostRuntime) -> Result<(), Fail> {
         (
             [NO_JOURNAL; 6],
             [
-                DONE,
-                AWAY,
-                DONE,
-                DONE,
-                DONE,
-                JOURNALED,
-                DONE,
-                STILL_OPEN,
-                DONE,
-                DONE,
-                DONE
+                DONE, AWAY, DONE, DONE, DONE, JOURNALED, DONE, STILL_OPEN, DONE, DONE, DONE
             ]
         )
     );
@@ -327,7 +314,9 @@ fn a_sync_that_fails(rt: HostRuntime) -> Result<(), Fail> {
         (
             [DONE; 5],
             DONE,
-            [DONE, DONE, FAILED, FAILED, FAILED, FAILED, FAILED, FAILED, FAILED],
+            [
+                DONE, DONE, FAILED, FAILED, FAILED, FAILED, FAILED, FAILED, FAILED
+            ],
             99
         )
     );
@@ -366,7 +355,9 @@ fn a_snapshot_that_fails(rt: HostRuntime) -> Result<(), Fail> {
         (added, kept),
         (
             [DONE; 5],
-            [DONE, DONE, FAILED, DONE, DONE, DONE, DONE, FAILED, FAILED, DONE]
+            [
+                DONE, DONE, FAILED, DONE, DONE, DONE, DONE, FAILED, FAILED, DONE
+            ]
         )
     );
     assert_eq!(rt; (back, found), ([DONE; 2], row(7, 78, 9)));
