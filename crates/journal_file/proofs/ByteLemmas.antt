@@ -47,5 +47,14 @@ over_pieces (suc at) bytes (was ∷ old) zero is fits = absurd (omega (arith, is
 over_pieces (suc at) bytes (was ∷ old) (suc end) is fits =
     ap (λ (l : List ℕ). was ∷ l) (over_pieces at bytes old end (omega (arith, is)) (omega (arith, fits)))
 
+-- bytes that are written over others make a file no longer
+pub over_length : (at : ℕ) (bytes old : List ℕ) → length old ≡ length (over at bytes old)
+over_length zero [] [] = refl
+over_length zero [] (was ∷ old) = refl
+over_length zero (byte ∷ bytes) [] = refl
+over_length zero (byte ∷ bytes) (was ∷ old) = ap suc (over_length zero bytes old)
+over_length (suc at) bytes [] = refl
+over_length (suc at) bytes (was ∷ old) = ap suc (over_length at bytes old)
+
 pub front_same : {A : Type 0} (a : List A) → IsFront a a
 front_same a = ([], sym (append-nil a))

@@ -1,7 +1,7 @@
 -- What the calls of a file do to its bytes, and what a crash may make of them between two syncs.
 use Rattle.std.specs.Prelude.{⊤, ◌<◌, ◌≡◌, ◌⊎◌, ℕ, zero, suc, ◌≤◌, List, [], ◌∷◌, ◌++◌, Result, IsErrOf}
 use Rattle.journal_file.specs.declared.fault.JournalFault.{JournalFault}
-use Rattle.journal_file.specs.declared.fault.JournalFault.TheVariants.{Failed, Full, NoJournal, BadLine}
+use Rattle.journal_file.specs.declared.fault.JournalFault.TheVariants.{Failed, Full, Locked, NoJournal, BadLine}
 
 -- the file with these bytes written over it at an offset
 abbrev pub over : ℕ → List ℕ → List ℕ → List ℕ
@@ -55,11 +55,11 @@ pub record LeavesOnly {D : Type 0} (moment : D → ℕ) (left_since : D → ℕ 
   -- from any earlier moment on, it leaves these or what it might have left by then
   pub before : (t : ℕ) (c : List ℕ) → t ≤ moment old → left_since new t c → left_since old t c ⊎ P c
 
--- A call of a file gives up with `Failed` only if the disk has failed during it, and never for want of room or of a
--- text.
+-- A call of a file gives up with `Failed` only if the disk has failed during it, and otherwise with `Memory`.
 pub record HasCause {T : Type 0} (before now : ℕ) (result : Result T JournalFault) : Type 0 where
   pub later : before ≤ now
   pub failed : IsErrOf result Failed → before < now
   pub not_full : IsErrOf result Full → ⊥
   pub not_missing : IsErrOf result NoJournal → ⊥
   pub not_bad : IsErrOf result BadLine → ⊥
+  pub not_locked : IsErrOf result Locked → ⊥

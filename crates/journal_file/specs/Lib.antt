@@ -4,4 +4,5 @@ pub mod Laws
 pub mod Memory
 pub mod Noted
 pub mod Owed
+pub mod Owner
 pub mod Relayed

@@ -1,6 +1,8 @@
 //! What a file on a disk does, and what a crash may leave of it.
-ghost use Rattle.std.specs.Prelude.{◌≡◌, ◌⊎◌, ◌<◌, ◌≤◌, ◌+◌, ◌-◌, ◌++◌, List, ℕ, length, take, replicate, IfOk, OnOk};
+ghost use Rattle.std.specs.Prelude.{◌≡◌, ◌⊎◌, ◌<◌, ◌≤◌, ◌+◌, ◌-◌, ◌++◌, List, ℕ, length, take, replicate, IfErr, IfOk, OnOk, Option};
 ghost use Rattle.journal_file.specs.Device.{Only, Follows, Mixes, Fades, IsFront, over, Elapses, HasCause};
+ghost use Rattle.journal_file.specs.Owner.{Owner};
+ghost use Rattle.journal_file.specs.declared.fault.JournalFault.TheVariants.{Failed};
 
 use crate::JournalFault;
 
@@ -24,6 +26,10 @@ pub trait Device {
     /// How often the disk has failed.
     ghost faults: { Self → ℕ };
 
+    /// Who makes the calls, with those that he has made, if the file can't reach the disk by itself. No call of this
+    /// trait changes it.
+    ghost owner: { Self → Option Owner };
+
     /// Writes bytes over those that are there, from an offset on. Gives up with `Failed`, or with `Memory` in a file in
     /// memory.
     fn write_at(&mut self, at: usize, bytes: &[u8]) -> Result<(), JournalFault>
@@ -31,7 +37,8 @@ pub trait Device {
         ensures written { OnOk result (seen self.new ≡ over at bytes.now (seen self.old)) }
         ensures crash { Follows (Mixes at bytes.now) (may_leave self.old) (may_leave self.new) }
         ensures time { Elapses (moment self.old) (moment self.new) (left_since self.old) (left_since self.new) (may_leave self.new) }
-        ensures cause { HasCause (faults self.old) (faults self.new) result };
+        ensures cause { HasCause (faults self.old) (faults self.new) result }
+        ensures owner { owner self.new ≡ owner self.old };
 
     /// Writes zeros over what is there, from an offset to the end. Gives up as `write_at` does.
     fn blank(&mut self, from: usize) -> Result<(), JournalFault>
@@ -39,14 +46,16 @@ pub trait Device {
         ensures blanked { OnOk result (seen self.new ≡ take from (seen self.old) ++ replicate (length (seen self.old) - from) 0) }
         ensures crash { Follows (Fades from) (may_leave self.old) (may_leave self.new) }
         ensures time { Elapses (moment self.old) (moment self.new) (left_since self.old) (left_since self.new) (may_leave self.new) }
-        ensures cause { HasCause (faults self.old) (faults self.new) result };
+        ensures cause { HasCause (faults self.old) (faults self.new) result }
+        ensures owner { owner self.new ≡ owner self.old };
 
     /// Adds `more` zeros behind the end. Until a sync, a crash may leave any bytes there. Gives up as `write_at` does.
     fn grow(&mut self, more: usize) -> Result<(), JournalFault>
         ensures grown { OnOk result (seen self.new ≡ seen self.old ++ replicate more 0) }
         ensures crash { Follows IsFront (may_leave self.old) (may_leave self.new) }
         ensures time { Elapses (moment self.old) (moment self.new) (left_since self.old) (left_since self.new) (may_leave self.new) }
-        ensures cause { HasCause (faults self.old) (faults self.new) result };
+        ensures cause { HasCause (faults self.old) (faults self.new) result }
+        ensures owner { owner self.new ≡ owner self.old };
 
     /// Puts all bytes on the disk: from an `Ok` on, a crash leaves them as they are. Gives up with `Failed`.
     fn sync(&mut self) -> Result<(), JournalFault>
@@ -54,7 +63,8 @@ pub trait Device {
         ensures seen { seen self.new ≡ seen self.old }
         ensures crash { (c : List ℕ) → may_leave self.new c → may_leave self.old c }
         ensures time { Elapses (moment self.old) (moment self.new) (left_since self.old) (left_since self.new) (may_leave self.new) }
-        ensures cause { HasCause (faults self.old) (faults self.new) result };
+        ensures cause { HasCause (faults self.old) (faults self.new) result }
+        ensures owner { owner self.new ≡ owner self.old };
 
     /// What a crash may leave now counts among what it might have left since an earlier moment.
     ghost counts_now: { (file : Self) (t : ℕ) (c : List ℕ) → t ≤ moment file → may_leave file c → left_since file t c };
@@ -76,7 +86,8 @@ pub trait Replace: Device {
         ensures durable { OnOk result (Only (Self.Device.seen next) (Self.Device.may_leave self.new)) }
         ensures crash { (c : List ℕ) → Self.Device.may_leave self.new c → Self.Device.may_leave self.old c ⊎ (c ≡ Self.Device.seen next) }
         ensures time { Elapses (Self.Device.moment self.old) (Self.Device.moment self.new) (Self.Device.left_since self.old) (Self.Device.left_since self.new) (Self.Device.may_leave self.new) }
-        ensures cause { HasCause (Self.Device.faults self.old) (Self.Device.faults self.new) result };
+        ensures cause { HasCause (Self.Device.faults self.old) (Self.Device.faults self.new) result }
+        ensures owner { Self.Device.owner self.new ≡ Self.Device.owner self.old };
 }
 
 /// A file that is read once, from its front to its end, before it is written. All of it is on the disk, and reading
@@ -99,7 +110,8 @@ pub trait Unread {
         ensures fits { IfOk result (λ n. n ≤ length buffer.new) }
         ensures length { length buffer.new ≡ length buffer.old }
         ensures read { IfOk result (λ n. read self.new ≡ read self.old ++ take n buffer.new) }
-        ensures ends { IfOk result (λ n. n ≡ 0 → 0 < length buffer.old → IsRead self.new) };
+        ensures ends { IfOk result (λ n. n ≡ 0 → 0 < length buffer.old → IsRead self.new) }
+        ensures cause { IfErr result (λ why. why ≡ Failed) };
 
     /// Hands over the file, which was read to its end.
     fn into_device(self) -> Self::File

@@ -1,6 +1,6 @@
 //! A file in memory. Each call is done at once, so a crash leaves what is there. The file keeps each content that it
 //! has had, so that its clauses can speak of all moments.
-ghost use Rattle.std.specs.Prelude.{◌≡◌, ◌⊎◌, ◌≤◌, ◌+◌, ◌-◌, ◌++◌, [], ◌∷◌, length, take, drop, replicate, IfOk, OnOk, OnErr};
+ghost use Rattle.std.specs.Prelude.{◌≡◌, ◌⊎◌, ◌≤◌, ◌+◌, ◌-◌, ◌++◌, [], ◌∷◌, length, take, drop, replicate, IfOk, OnOk, OnErr, None};
 ghost use Rattle.std.proofs.Common.{inl, refl};
 ghost use Rattle.journal_file.specs.Laws.{bytes_alone};
 ghost use Rattle.journal_file.specs.Memory.{HadBeen, memory_bytes, memory_read, memory_file};
@@ -84,6 +84,8 @@ impl Device for Memory {
     ghost left_since = { λ m t c. (c ≡ m.bytes.items) ⊎ HadBeen (drop t m.past.items) c };
 
     ghost faults = { λ m. 0 };
+
+    ghost owner = { λ m. None };
 
     ghost counts_now = { λ m t c le now. inl now };
 

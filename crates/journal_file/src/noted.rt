@@ -1,5 +1,5 @@
 //! A file of the operating system. Each method makes its calls of the system, and then notes them with their answer.
-ghost use Rattle.std.specs.Prelude.{◌≡◌, ◌<◌, ◌≤◌, [], ◌∷◌, true, length, IfOk};
+ghost use Rattle.std.specs.Prelude.{◌≡◌, ◌<◌, ◌≤◌, [], ◌∷◌, true, length, IfOk, None};
 ghost use Rattle.journal_file.specs.Calls.{seen_after, left_after, faults_in, left_since};
 ghost use Rattle.journal_file.specs.Laws.{now_counts, now_alone, seen_left};
 ghost use Rattle.journal_file.specs.Noted.{noted_file, noted_read};
@@ -137,6 +137,8 @@ impl<F: SystemFile> Device for Noted<F> {
     ghost left_since = { λ f. left_since f.log.calls };
 
     ghost faults = { λ f. faults_in f.log.calls };
+
+    ghost owner = { λ f. None };
 
     ghost counts_now = { λ f t c le now. now_counts f.log.calls t c now };
 

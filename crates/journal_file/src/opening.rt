@@ -98,28 +98,34 @@ fn fill(file: &File) -> Result<(), JournalFault> {
     Ok(())
 }
 
-fn open_or_create(runtime: &HostRuntime, path: &str) -> io::Result<File> {
-    OpenOptions::new()
+/// Opens a file, or makes it. Gives up with `Failed` if the path is a link, which may lead to any file, or no regular
+/// file, and as [`open`] does.
+fn open_or_create(runtime: &HostRuntime, path: &str) -> Result<File, JournalFault> {
+    if let Ok(found) = fs::symlink_metadata(runtime, path) {
+        if !found.is_file() {
+            return Err(JournalFault::Failed);
+        }
+    }
+    let file = OpenOptions::new()
         .read(true)
         .write(true)
         .create(true)
-        .open(runtime, path)
+        .open(runtime, path)?;
+    Ok(file)
 }
 
 /// Opens and locks the file that has the name by then.
 fn open_locked(place: &Place) -> Result<File, JournalFault> {
+    let path = place.path.as_str();
+    if !fs::metadata(&place.runtime, path)?.is_file() {
+        return Err(JournalFault::NoJournal);
+    }
     let file = OpenOptions::new()
         .read(true)
         .write(true)
-        .open(&place.runtime, place.path.as_str())?;
+        .open(&place.runtime, path)?;
     lock(&file)?;
-    let (opened, named) = (
-        file.metadata()?,
-        fs::metadata(&place.runtime, place.path.as_str())?,
-    );
-    if !opened.is_file() {
-        return Err(JournalFault::NoJournal);
-    }
+    let (opened, named) = (file.metadata()?, fs::metadata(&place.runtime, path)?);
     if opened.dev() != named.dev() || opened.ino() != named.ino() {
         return Err(JournalFault::Locked);
     }

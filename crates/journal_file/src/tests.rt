@@ -1,5 +1,6 @@
 use super::*;
 use std::fs;
+use std::os::unix::fs::symlink;
 use std::test::Fail;
 
 const FOLDER: &str = "journal_file_test";
@@ -35,9 +36,25 @@ fn a_file_is_made_with_zeros_and_locked(rt: HostRuntime) -> Result<(), Fail> {
     let mut unread = open(&rt, PATH)?;
     assert_eq!(rt; read_all(&mut unread)?, 65_536);
     assert!(rt; !fs::exists(&rt, "journal_file_test/a.next")?);
-    assert!(rt; matches!(open(&rt, FOLDER), Err(JournalFault::Failed)));
+    assert!(rt; matches!(open(&rt, FOLDER), Err(JournalFault::NoJournal)));
     assert!(rt; matches!(open(&rt, "no_such_folder/a"), Err(JournalFault::Failed)));
     fs::remove_dir_all(&rt, FOLDER)?;
+    Ok(())
+}
+
+const LINKS: &str = "journal_file_links";
+
+#[test]
+fn no_link_is_written_to(rt: HostRuntime) -> Result<(), Fail> {
+    let _ = fs::remove_dir_all(&rt, LINKS);
+    fs::create_dir(&rt, LINKS)?;
+    fs::write(&rt, "journal_file_links/other", b"other".as_slice())?;
+    symlink(&rt, "other", "journal_file_links/a.new")?;
+    assert!(rt; matches!(open(&rt, "journal_file_links/a"), Err(JournalFault::Failed)));
+    let other = fs::read(&rt, "journal_file_links/other")?;
+    assert_eq!(rt; other.as_slice(), b"other".as_slice());
+    assert!(rt; !fs::exists(&rt, "journal_file_links/a")?);
+    fs::remove_dir_all(&rt, LINKS)?;
     Ok(())
 }
 

@@ -1,12 +1,15 @@
-use Rattle.std.proofs.Common.{◌≡◌, List, true, rules}
+use Rattle.std.proofs.Common.{◌≡◌, ◌∙◌, List, true, rules}
 use Rattle.journal_file.specs.Calls.{Call, left_after}
 use Rattle.journal_file.specs.Device.{Follows, Mixes}
-use Rattle.journal_file.proofs.ByteLemmas.{mixes_same}
+use Rattle.journal_file.proofs.ByteLemmas.{mixes_same, over_length}
 use Rattle.journal_file.proofs.CallLemmas.{noted_or_same, wrote_follows}
 use Rattle.journal_file.proofs.relayed.RelayedDevice.write_at.Goals as goal
 
 pub returns-in_err-extend_from_slice-clause-crash : goal.returns-in_err-extend_from_slice-clause-crash
 returns-in_err-extend_from_slice-clause-crash c = λ f left. (f, left, mixes_same c.args.at c.args.bytes.now f)
+
+pub owe-requires-clause-len : goal.owe-requires-clause-len
+owe-requires-clause-len c = c.args.self.now.whole_len ∙ over_length c.args.at c.extend_from_slice.new.self.items _
 
 pub returns-clause-crash : goal.returns-clause-crash
 returns-clause-crash c =
