@@ -84,13 +84,16 @@ module _ {M : Type 0} (moves : List ℕ → M → M → Type 0) (bytes : List �
           run = subst (λ (l : List (List ℕ)). Runs moves l first now) (sym found) was.run;
         }
 
+    pub one_line_more : byte ≡ 10 → recovered (bytes ++ byte ∷ []) ≡ recovered bytes ++ line ∷ []
+    one_line_more feed =
+        ap lines goes_on ∙ lines_one_feed bytes byte feed
+        ∙ ap (λ (l : List ℕ). lines bytes ++ open_from [] l ∷ []) (sym all) ∙ ap (λ (l : List ℕ). lines bytes ++ l ∷ []) (sym was.begun)
+        ∙ ap (λ (l : List ℕ). lines l ++ line ∷ []) (sym all)
+
     pub followed_feed : (none : List ℕ) → none ≡ [] → byte ≡ 10 → (next : M) → moves line now next
         → HasRead moves (bytes ++ byte ∷ []) first next (record { whole = at.text + 1; text = at.text + 1; len = at.len + 1 }) none is_over
     followed_feed none is feed next moved =
-        let found : recovered (bytes ++ byte ∷ []) ≡ recovered bytes ++ line ∷ [] =
-        ap lines goes_on ∙ lines_one_feed bytes byte feed
-        ∙ ap (λ (l : List ℕ). lines bytes ++ open_from [] l ∷ []) (sym all) ∙ ap (λ (l : List ℕ). lines bytes ++ l ∷ []) (sym was.begun)
-        ∙ ap (λ (l : List ℕ). lines l ++ line ∷ []) (sym all) in
+        let found = one_line_more feed in
         let whole : take (at.text + 1) (bytes ++ byte ∷ []) ≡ bytes ++ byte ∷ [] = take_all (at.text + 1) (bytes ++ byte ∷ []) (omega (arith, text_long)) in
         let none_open = open_one_feed bytes byte feed in
         record {

@@ -3,6 +3,7 @@ pub mod FollowLemmas
 pub mod LineLemmas
 pub mod MomentLemmas
 pub mod OpenLemmas
+pub mod RefusedLemmas
 pub mod RunLemmas
 pub mod StepLemmas
 pub mod TextLemmas

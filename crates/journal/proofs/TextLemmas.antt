@@ -3,6 +3,7 @@ use Rattle.std.proofs.Common.{◌≡◌, ◌≢◌, ℕ, zero, suc, ◌≤◌, L
 use Rattle.std.proofs.lemmas.Bool.{cases_eq}
 use Rattle.std.proofs.lemmas.Bool.Decides.{nat_tests}
 use Rattle.std.proofs.lemmas.List.{append-nil}
+use Rattle.journal_file.specs.Device.{IsFront}
 use Rattle.journal.specs.Lines.{text, HasNoZero, HasFence}
 
 pub text_zero : (byte : ℕ) (file : List ℕ) → byte ≡ 0 → text (byte ∷ file) ≡ []
@@ -77,4 +78,17 @@ text_fenced (byte ∷ file) junk fence = elim (cases_eq byte 0) [
       text_byte byte (file ++ junk) isnt
       ∙ ap (λ (l : List ℕ). byte ∷ l) (text_fenced file junk (omega (arith, fence, ap length (text_byte byte file isnt))))
       ∙ sym (text_byte byte file isnt)
+]
+
+-- behind more bytes, a text goes on
+pub text_grows : (file more : List ℕ) → IsFront (text file) (text (file ++ more))
+text_grows [] more = (text more, refl)
+text_grows (byte ∷ file) more = elim (cases_eq byte 0) [
+  | inl is ↦ ([], text_zero byte (file ++ more) is ∙ ap (λ (l : List ℕ). l ++ []) (sym (text_zero byte file is)))
+  | inr isnt ↦
+      let rest = text_grows file more in (
+        rest.0,
+        text_byte byte (file ++ more) isnt ∙ ap (λ (l : List ℕ). byte ∷ l) rest.1
+            ∙ ap (λ (l : List ℕ). l ++ rest.0) (sym (text_byte byte file isnt)),
+      )
 ]

@@ -1,6 +1,7 @@
 //! Puts a short journal in the place of a long one.
-ghost use Rattle.std.specs.Prelude.{◌≡◌, ◌⊎◌, List, ℕ, OnOk};
+ghost use Rattle.std.specs.Prelude.{◌≡◌, ◌⊎◌, ◌<◌, List, ℕ, IsErrOf, OnOk};
 ghost use Rattle.journal_file.specs.Device.{LeavesOnly};
+ghost use Rattle.journal_file.specs.declared.fault.JournalFault.TheVariants.{BadLine, Failed, Full, Locked, NoJournal};
 ghost use Rattle.journal.specs.Lines.{text, recovered, HasFence};
 ghost use Rattle.journal.specs.Tape.{IsOpen};
 
@@ -21,6 +22,12 @@ pub fn compact<D: Replace>(tape: &mut Tape<D>, next: Tape<D>) -> Result<(), Jour
 
     ensures any_moment { LeavesOnly D.Device.moment D.Device.left_since tape.old.device tape.new.device
         (λ c. HasFence c × ((recovered c ≡ recovered (D.Device.seen tape.old.device)) ⊎ (recovered c ≡ recovered (D.Device.seen next.device)))) }
+
+    ensures failed { IsErrOf result Failed → D.Device.faults tape.old.device < D.Device.faults tape.new.device }
+    ensures full { IsErrOf result Full → ⊥ }
+    ensures journal { IsErrOf result NoJournal → ⊥ }
+    ensures no_other { (IsErrOf result BadLine → ⊥) × (IsErrOf result Locked → ⊥) }
+    ensures owner { D.Device.owner tape.new.device ≡ D.Device.owner tape.old.device }
 {
     let Tape {
         device,

@@ -1,7 +1,10 @@
 //! Finds the lines in the bytes of a file while they are read.
-ghost use Rattle.std.specs.Prelude.{◌≡◌, ◌≤◌, ◌<◌, ◌+◌, ◌^◌, ◌++◌, [], ◌∷◌, List, ℕ, false, length, take, IfOk, OnOk};
+ghost use Rattle.std.specs.Prelude.{◌≡◌, ◌≤◌, ◌<◌, ◌+◌, ◌^◌, ◌++◌, [], ◌∷◌, List, ℕ, false, length, take, IfErr, IfOk, OnOk};
 ghost use Rattle.std.specs.List.{AllByRecursion};
+ghost use Rattle.journal_file.specs.declared.fault.JournalFault.TheVariants.{Memory};
 ghost use Rattle.journal.specs.Inside.{IsFollowed, IsInner};
+ghost use Rattle.journal.specs.Lines.{recovered};
+ghost use Rattle.journal.specs.Machine.{AreRefused};
 
 use crate::{Ends, Machine};
 use journal_file::JournalFault;
@@ -49,6 +52,8 @@ impl Follower {
         ensures ready { OnOk result (M.IsReady machine.new) }
         ensures follows { OnOk result ((bytes : List ℕ) (first : M) → IsFollowed M.moves bytes first machine.old self.old
             → IsFollowed M.moves (bytes ++ piece.now) first machine.new self.new) }
+        ensures refused { IfErr result (λ why. (bytes : List ℕ) (first : M) → IsFollowed M.moves bytes first machine.old self.old
+            → AreRefused M.moves M.IsBad (recovered (bytes ++ piece.now)) first why) }
     {
         let mut at = 0;
         while at < piece.len() {
@@ -75,6 +80,8 @@ impl Follower {
         ensures len { IfOk result (λ n. self.new.ends.len ≡ self.old.ends.len + n) }
         ensures follows { IfOk result (λ n. (read : List ℕ) (first : M) → IsFollowed M.moves read first machine.old self.old
             → IsFollowed M.moves (read ++ take n bytes.now) first machine.new self.new) }
+        ensures refused { IfErr result (λ why. (read : List ℕ) (first : M) → IsFollowed M.moves read first machine.old self.old
+            → AreRefused M.moves M.IsBad (recovered (read ++ bytes.now)) first why) }
     {
         if self.is_over {
             self.ends.len += bytes.len();
@@ -103,6 +110,7 @@ impl Follower {
         ensures text { OnOk result (self.new.ends.text ≡ self.old.ends.text + length bytes.now) }
         ensures len { OnOk result (self.new.ends.len ≡ self.old.ends.len + length bytes.now) }
         ensures over { OnOk result (self.new.is_over ≡ self.old.is_over) }
+        ensures refused { IfErr result (λ why. why ≡ Memory) }
     {
         self.line.extend_from_slice(bytes)?;
         self.ends.text += bytes.len();
@@ -123,6 +131,8 @@ impl Follower {
         ensures len { OnOk result (self.new.ends.len ≡ self.old.ends.len + length line.now + 1) }
         ensures follows { OnOk result ((read : List ℕ) (first : M) → IsFollowed M.moves read first machine.old self.old
             → IsFollowed M.moves (read ++ line.now ++ 10 ∷ []) first machine.new self.new) }
+        ensures refused { IfErr result (λ why. (read : List ℕ) (first : M) → IsFollowed M.moves read first machine.old self.old
+            → AreRefused M.moves M.IsBad (recovered (read ++ line.now ++ 10 ∷ [])) first why) }
     {
         machine.apply(line)?;
         self.ends.text += line.len() + 1;
@@ -140,6 +150,8 @@ impl Follower {
         ensures len { OnOk result (self.new.ends.len ≡ self.old.ends.len + 1) }
         ensures follows { OnOk result ((bytes : List ℕ) (first : M) → IsFollowed M.moves bytes first machine.old self.old
             → IsFollowed M.moves (bytes ++ byte ∷ []) first machine.new self.new) }
+        ensures refused { IfErr result (λ why. (bytes : List ℕ) (first : M) → IsFollowed M.moves bytes first machine.old self.old
+            → AreRefused M.moves M.IsBad (recovered (bytes ++ byte ∷ [])) first why) }
     {
         self.ends.len += 1;
         if self.is_over {

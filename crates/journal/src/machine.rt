@@ -1,5 +1,6 @@
 //! A state that lines lead on from.
-ghost use Rattle.std.specs.Prelude.{List, ℕ, OnOk};
+ghost use Rattle.std.specs.Prelude.{◌≡◌, ◌⊎◌, List, ℕ, IfErr, OnOk};
+ghost use Rattle.journal_file.specs.declared.fault.JournalFault.TheVariants.{BadLine, Memory};
 
 use journal_file::JournalFault;
 
@@ -11,10 +12,14 @@ pub trait Machine {
     /// The line may lead from the first state to the second.
     ghost moves: { List ℕ → Self → Self → Type 0 };
 
-    /// Does what a line says, which is handed over without its line feed. Gives up with `BadLine` if the line says
-    /// nothing that can be done, or with `Memory`.
+    /// The line says nothing that can be done in this state.
+    ghost IsBad: { List ℕ → Self → Type 0 };
+
+    /// Does what a line says, which is handed over without its line feed. Gives up with `BadLine` if the line is bad, or
+    /// with `Memory`.
     fn apply(&mut self, line: &[u8]) -> Result<(), JournalFault>
         requires ready { IsReady self.old }
         ensures ready { OnOk result (IsReady self.new) }
-        ensures moves { OnOk result (moves line.now self.old self.new) };
+        ensures moves { OnOk result (moves line.now self.old self.new) }
+        ensures refused { IfErr result (λ why. (why ≡ Memory) ⊎ ((why ≡ BadLine) × IsBad line.now self.old)) };
 }

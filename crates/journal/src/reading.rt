@@ -1,7 +1,8 @@
 //! Reads a file to its end, one piece after another.
-ghost use Rattle.std.specs.Prelude.{◌≡◌, [], IfOk, OnOk};
+ghost use Rattle.std.specs.Prelude.{◌≡◌, ◌≤◌, ◌⊎◌, ◌^◌, [], length, IfErr, IfOk, OnOk};
+ghost use Rattle.journal_file.specs.declared.fault.JournalFault.TheVariants.{Failed, Full};
 ghost use Rattle.journal.specs.Lines.{recovered};
-ghost use Rattle.journal.specs.Machine.{Runs};
+ghost use Rattle.journal.specs.Machine.{AreRefused, Runs};
 ghost use Rattle.journal.specs.Tape.{AreEnds};
 
 use crate::follower::Follower;
@@ -27,6 +28,9 @@ pub fn replay<U: Unread, M: Machine>(
     ensures whole { OnOk result (U.IsRead unread.new) }
     ensures ends { IfOk result (λ ends. AreEnds (U.read unread.new) ends) }
     ensures runs { OnOk result (Runs M.moves (recovered (U.read unread.new)) machine.old machine.new) }
+    // No line is refused but a bad one.
+    ensures refused { IfErr result (λ why. AreRefused M.moves M.IsBad (recovered (U.read unread.new)) machine.old why
+        ⊎ (why ≡ Failed) ⊎ ((why ≡ Full) × (2 ^ 62 ≤ length (U.read unread.new)))) }
 {
     let mut piece = [0; PIECE];
     let mut follower = Follower::new(alloc);
@@ -51,6 +55,8 @@ pub fn replay_bytes<M: Machine>(
     ensures ready { OnOk result (M.IsReady machine.new) }
     ensures ends { IfOk result (λ ends. AreEnds bytes.now ends) }
     ensures runs { OnOk result (Runs M.moves (recovered bytes.now) machine.old machine.new) }
+    ensures refused { IfErr result (λ why. AreRefused M.moves M.IsBad (recovered bytes.now) machine.old why
+        ⊎ ((why ≡ Full) × (2 ^ 62 ≤ length bytes.now))) }
 {
     if bytes.len() >= MAX_LEN {
         return Err(JournalFault::Full);

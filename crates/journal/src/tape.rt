@@ -1,7 +1,7 @@
 //! A text in a file, with zeros behind it that are on the disk.
 ghost use Rattle.std.specs.Prelude.{◌≡◌, ◌<◌, ◌≤◌, ◌+◌, ◌-◌, ◌^◌, ◌++◌, length, OnOk, IsErrOf};
 ghost use Rattle.journal_file.specs.Device.{Only, LeavesOnly};
-ghost use Rattle.journal_file.specs.declared.fault.JournalFault.TheVariants.{Failed, Full, NoJournal};
+ghost use Rattle.journal_file.specs.declared.fault.JournalFault.TheVariants.{BadLine, Failed, Full, Locked, NoJournal};
 ghost use Rattle.journal.specs.Lines.{text, lines, recovered, HasNoZero, HasFence, IsWhole};
 ghost use Rattle.journal.specs.Tape.{AreEnds, IsOpen, kept, IsBetween, HasLinesBetween};
 
@@ -60,6 +60,7 @@ impl<D: Device> Tape<D> {
         ensures is_open { OnOk result (IsOpen D.seen D.may_leave self.new) }
         ensures acknowledged { OnOk result (self.new.synced ≡ self.new.end) }
         ensures fenced { OnOk result (HasFence (D.seen self.old.device)) }
+        ensures len { OnOk result (self.new.len ≡ ends.len) }
 
         ensures any_moment { LeavesOnly D.moment D.left_since self.old.device self.new.device
             (λ c. recovered c ≡ recovered (D.seen self.old.device)) }
@@ -68,6 +69,9 @@ impl<D: Device> Tape<D> {
         ensures failed { IsErrOf result Failed → D.faults self.old.device < D.faults self.new.device }
         ensures full { IsErrOf result Full → ⊥ }
         ensures journal { IsErrOf result NoJournal → HasFence (D.seen self.old.device) → ⊥ }
+        ensures cause { D.faults self.old.device ≤ D.faults self.new.device }
+        ensures no_other { (IsErrOf result BadLine → ⊥) × (IsErrOf result Locked → ⊥) }
+        ensures owner { D.owner self.new.device ≡ D.owner self.old.device }
     {
         if ends.text == ends.len {
             return Err(JournalFault::NoJournal);
@@ -98,6 +102,8 @@ impl<D: Device> Tape<D> {
         ensures full { IsErrOf result Full → 2 ^ 61 ≤ self.old.len + length bytes.now }
         ensures journal { IsErrOf result NoJournal → ⊥ }
         ensures cause { D.faults self.old.device ≤ D.faults self.new.device }
+        ensures no_other { (IsErrOf result BadLine → ⊥) × (IsErrOf result Locked → ⊥) }
+        ensures owner { D.owner self.new.device ≡ D.owner self.old.device }
     {
         self.make_room(bytes.len())?;
         self.device.write_at(self.end, bytes)?;
@@ -124,6 +130,8 @@ impl<D: Device> Tape<D> {
         ensures full { IsErrOf result Full → 2 ^ 61 ≤ self.old.len + more }
         ensures journal { IsErrOf result NoJournal → ⊥ }
         ensures cause { D.faults self.old.device ≤ D.faults self.new.device }
+        ensures no_other { (IsErrOf result BadLine → ⊥) × (IsErrOf result Locked → ⊥) }
+        ensures owner { D.owner self.new.device ≡ D.owner self.old.device }
     {
         if more < self.len - self.end {
             return Ok(());
@@ -154,6 +162,8 @@ impl<D: Device> Tape<D> {
         ensures failed { IsErrOf result Failed → D.faults self.old.device < D.faults self.new.device }
         ensures full { IsErrOf result Full → ⊥ }
         ensures journal { IsErrOf result NoJournal → ⊥ }
+        ensures no_other { (IsErrOf result BadLine → ⊥) × (IsErrOf result Locked → ⊥) }
+        ensures owner { D.owner self.new.device ≡ D.owner self.old.device }
     {
         self.device.sync()?;
         self.synced = self.end;
@@ -180,6 +190,8 @@ impl<D: Device> Tape<D> {
         ensures failed { IsErrOf result Failed → D.faults self.old.device < D.faults self.new.device }
         ensures full { IsErrOf result Full → 2 ^ 61 ≤ self.old.len + length group.now }
         ensures journal { IsErrOf result NoJournal → ⊥ }
+        ensures no_other { (IsErrOf result BadLine → ⊥) × (IsErrOf result Locked → ⊥) }
+        ensures owner { D.owner self.new.device ≡ D.owner self.old.device }
     {
         self.append(group)?;
         self.sync()?;

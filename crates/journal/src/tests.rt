@@ -18,6 +18,8 @@ impl Machine for Lines {
 
     ghost moves = { λ line old new. new.bytes.items ≡ old.bytes.items ++ line ++ 10 ∷ [] };
 
+    ghost IsBad = { λ line at. ⊥ };
+
     fn apply(&mut self, line: &[u8]) -> Result<(), JournalFault> {
         self.bytes.extend_from_slice(line)?;
         self.bytes.push(b'\n')?;

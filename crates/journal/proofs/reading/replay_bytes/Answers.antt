@@ -1,5 +1,7 @@
-use Rattle.std.proofs.Common.{[], rules}
+use Rattle.std.proofs.lemmas.Result.{err_from_is_err_and}
+use Rattle.std.proofs.Common.{[], inl, rules}
 use Rattle.journal.specs.Inside.{IsFollowed}
+use Rattle.journal.proofs.RefusedLemmas.{handed_on}
 use Rattle.journal.proofs.reading.replay_bytes.Goals as goal
 
 -- all bytes were read by one piece
@@ -13,3 +15,10 @@ returns-clause-ends g c = (followed g c).ends
 
 pub returns-clause-runs : goal.returns-clause-runs
 returns-clause-runs g c = (followed g c).run
+
+pub returns-in_err-follow-clause-refused : goal.returns-in_err-follow-clause-refused
+returns-in_err-follow-clause-refused g c =
+    let passed = err_from_is_err_and c.from_residual.result c.from_residual.ensures.1 in
+    let none : IsFollowed g.M.Machine.moves [] c.args.machine.now c.args.machine.now c.new-follower.result = search rules in
+    handed_on c.from_residual.result _ passed.0 c.in_err-follow.field-0.0 passed.1 passed.2
+    (inl (c.in_err-follow.ensures.refused [] c.args.machine.now none))

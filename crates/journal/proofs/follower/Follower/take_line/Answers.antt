@@ -1,9 +1,15 @@
-use Rattle.std.proofs.Common.{◌≡◌, ◌<◌, ◌++◌, [], ◌∷◌, length, take, sym, subst, arith, append_assoc, get_or}
+use Rattle.std.proofs.lemmas.Result.{err_from_is_err_and}
+use Rattle.std.proofs.Common.{◌≡◌, ◌<◌, ◌+◌, ◌++◌, ◌∙◌, [], ◌∷◌, List, ℕ, length, take, drop, refl, sym, ap, subst, arith, append_assoc, take-append-drop, get_or}
 use Rattle.std.proofs.lemmas.List.{take_all, take_more}
 use Rattle.std.specs.List.{AllByRecursion}
 use Rattle.journal.specs.Inside.{IsInner}
 use Rattle.journal.proofs.FollowLemmas.{followed_over, followed_inner}
+use Rattle.journal.proofs.RefusedLemmas.{handed_on, refused_more}
 use Rattle.journal.proofs.follower.Follower.take_line.Goals as goal
+
+-- bytes of two parts, behind others
+joined : (read bytes front rest : List ℕ) → bytes ≡ front ++ rest → read ++ bytes ≡ (read ++ front) ++ rest
+joined read bytes front rest is = ap (λ (l : List ℕ). read ++ l) is ∙ sym (append_assoc read front rest)
 
 pub returns-then-self-clause-follows : goal.returns-then-self-clause-follows
 returns-then-self-clause-follows g c = λ read first was.
@@ -34,3 +40,39 @@ returns-clause-follows g c = λ read first was.
     (c.in_ok-push.ensures.follows (read ++ take n bytes) first
     (followed_inner g.M.Machine.moves read (take n bytes) first c.args.machine.now self.ends c.begin_line-2.new.self.ends self.line.items c.begin_line-2.new.self.line.items self.is_over c.begin_line-2.new.self.is_over
     was c.if-self.false c.inner-n.ensures.inner begun.line begun.whole begun.text begun.len begun.over))
+
+pub returns-in_err-do_line-clause-refused : goal.returns-in_err-do_line-clause-refused
+returns-in_err-do_line-clause-refused g c =
+    let passed = err_from_is_err_and c.from_residual-in_err-do_line.result c.from_residual-in_err-do_line.ensures.1 in
+    let bytes = c.args.bytes.now in
+    let n = c.inner-n.result in
+    let below : n < length bytes = omega (arith, c.if-n-bytes.false, c.inner-n.ensures.within) in
+    let feed : get_or bytes n 0 ≡ 10 = omega (arith, c.if-bytes-n-eq10.true) in
+    let whole : bytes ≡ (take n bytes ++ 10 ∷ []) ++ drop (n + 1) bytes =
+    sym (take-append-drop (n + 1) bytes) ∙ ap (λ (l : List ℕ). l ++ drop (n + 1) bytes) (take_more bytes n 0 below ∙ ap (λ (b : ℕ). take n bytes ++ b ∷ []) feed) in
+    handed_on c.from_residual-in_err-do_line.result _ passed.0 c.in_err-do_line.field-0.0 passed.1 passed.2
+    (λ read first was.
+    refused_more g.M.Machine.moves g.M.Machine.IsBad (read ++ bytes) (read ++ take n bytes ++ 10 ∷ []) (drop (n + 1) bytes) first c.in_err-do_line.field-0.0
+    (joined read bytes (take n bytes ++ 10 ∷ []) (drop (n + 1) bytes) whole
+    ∙ ap (λ (l : List ℕ). l ++ drop (n + 1) bytes) (sym (append_assoc read (take n bytes) (10 ∷ []))))
+    (c.in_err-do_line.ensures.refused read first was))
+
+pub returns-in_err-push-clause-refused : goal.returns-in_err-push-clause-refused
+returns-in_err-push-clause-refused g c =
+    let passed = err_from_is_err_and c.from_residual-in_err-push.result c.from_residual-in_err-push.ensures.1 in
+    let bytes = c.args.bytes.now in
+    let self = c.args.self.now in
+    let n = c.inner-n.result in
+    let begun = c.in_ok-begin_line-2.ensures in
+    let below : n < length bytes = omega (arith, c.if-n-bytes.false, c.inner-n.ensures.within) in
+    let byte = get_or bytes n 0 in
+    let whole : bytes ≡ (take n bytes ++ byte ∷ []) ++ drop (n + 1) bytes =
+    sym (take-append-drop (n + 1) bytes) ∙ ap (λ (l : List ℕ). l ++ drop (n + 1) bytes) (take_more bytes n 0 below) in
+    handed_on c.from_residual-in_err-push.result _ passed.0 c.in_err-push.field-0.0 passed.1 passed.2
+    (λ read first was.
+    refused_more g.M.Machine.moves g.M.Machine.IsBad (read ++ bytes) ((read ++ take n bytes) ++ byte ∷ []) (drop (n + 1) bytes) first c.in_err-push.field-0.0
+    (joined read bytes (take n bytes ++ byte ∷ []) (drop (n + 1) bytes) whole
+    ∙ ap (λ (l : List ℕ). l ++ drop (n + 1) bytes) (sym (append_assoc read (take n bytes) (byte ∷ []))))
+    (c.in_err-push.ensures.refused (read ++ take n bytes) first
+    (followed_inner g.M.Machine.moves read (take n bytes) first c.args.machine.now self.ends c.begin_line-2.new.self.ends self.line.items c.begin_line-2.new.self.line.items self.is_over c.begin_line-2.new.self.is_over
+    was c.if-self.false c.inner-n.ensures.inner begun.line begun.whole begun.text begun.len begun.over)))
