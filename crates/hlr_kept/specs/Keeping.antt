@@ -38,10 +38,9 @@ pub record IsSame {D : Type 0} (before after : Journal D) : Type 0 where
   pub group : after.group.items ≡ before.group.items
   pub fault : after.fault ≡ before.fault
 
--- Nothing has changed of a journal whose file has an owner. There may be more memory for calls.
-pub record IsLike (before after : Journal Relayed) : Type 0 where
+-- A journal whose file has an owner has noted the same calls, and the same lines wait.
+pub record HasSameCalls (before after : Journal Relayed) : Type 0 where
   pub calls : after.tape.device.log.calls ≡ before.tape.device.log.calls
-  pub owed : after.tape.device.owed.items ≡ before.tape.device.owed.items
   pub fd : after.tape.device.fd ≡ before.tape.device.fd
   pub end : after.tape.end ≡ before.tape.end
   pub synced : after.tape.synced ≡ before.tape.synced
@@ -49,16 +48,17 @@ pub record IsLike (before after : Journal Relayed) : Type 0 where
   pub group : after.group.items ≡ before.group.items
   pub fault : after.fault ≡ before.fault
 
+-- Nothing has changed. There may be more memory for calls.
+pub record IsLike (before after : Journal Relayed) : Type 0 where
+  pub same : HasSameCalls before after
+  pub owed : after.tape.device.owed.items ≡ before.tape.device.owed.items
+  pub made : after.tape.device.made.calls ≡ before.tape.device.made.calls
+
 -- The owner of the file has made all calls that it was owed. Nothing else has changed.
 pub record IsHanded (before after : Journal Relayed) : Type 0 where
-  pub calls : after.tape.device.log.calls ≡ before.tape.device.log.calls
+  pub same : HasSameCalls before after
   pub owed : after.tape.device.owed.items ≡ []
-  pub fd : after.tape.device.fd ≡ before.tape.device.fd
-  pub end : after.tape.end ≡ before.tape.end
-  pub synced : after.tape.synced ≡ before.tape.synced
-  pub len : after.tape.len ≡ before.tape.len
-  pub group : after.group.items ≡ before.group.items
-  pub fault : after.fault ≡ before.fault
+  pub made : after.tape.device.made.calls ≡ before.tape.device.log.calls
 
 -- The line of an event is behind those that waited, if the reply is Done. Nothing else has changed.
 pub record IsPut {D : Type 0} (event : Event) (told : Reply) (before after : Journal D) : Type 0 where

@@ -1,6 +1,6 @@
 -- The rows that a journal stands for. Its first line names the format, and each other line is that of an event which is
 -- answered Done where its turn comes.
-use Rattle.std.specs.Prelude.{◌≡◌, ℕ, List, [], ◌∷◌, Option, Some, None, Result, Ok, Err, if◌then◌else◌}
+use Rattle.std.specs.Prelude.{◌≡◌, ◌≤◌, ◌+◌, ◌^◌, ⊤, ℕ, List, [], ◌∷◌, length, Option, Some, None, Result, Ok, Err, if◌then◌else◌}
 use Rattle.tatp_rows.specs.declared.refusal.Refusal.{Refusal}
 use Rattle.tatp_actions.specs.Book.{Book, empty_book}
 use Rattle.tatp_actions.specs.declared.action.Action.{Action}
@@ -8,7 +8,9 @@ use Rattle.tatp_actions.specs.declared.action.RowReply.{RowReply}
 use Rattle.hlr_owners.specs.Owners.{OwnersState, book_in, store_in}
 use Rattle.hlr_core.specs.Step.{action_for, is_done, whole_effect}
 use Rattle.hlr_core.specs.declared.event.Event.{Event}
-use Rattle.journal.specs.Lines.{recovered}
+use Rattle.journal.specs.Lines.{HasFence, recovered}
+use Rattle.journal_file.specs.declared.fault.JournalFault.{JournalFault}
+use Rattle.journal_file.specs.declared.fault.JournalFault.TheVariants.{BadLine, Full, Memory, NoJournal}
 use Rattle.edit_lines.specs.Reading.{event_of, first_checked}
 use Rattle.edit_lines.specs.declared.error.LineError.{LineError}
 
@@ -57,3 +59,12 @@ book_of file = book_of_lines (recovered file)
 -- nothing has changed of a register but its rows
 abbrev pub HasOtherRows : OwnersState → OwnersState → Type 0
 HasOtherRows before after = store_in after ≡ record (store_in before) { book = book_in after.owners }
+
+-- why a file isn't opened as a journal: memory was refused, a line of it is bad, no 0 stands behind its text, or its first
+-- line would make it longer than 2^61 bytes
+abbrev pub IsNotOpened : List ℕ → JournalFault → Type 0
+IsNotOpened file Memory = ⊤
+IsNotOpened file BadLine = book_of file ≡ None
+IsNotOpened file NoJournal = ¬ (HasFence file)
+IsNotOpened file Full = 2 ^ 61 ≤ length file + 14
+IsNotOpened file _ = ⊥

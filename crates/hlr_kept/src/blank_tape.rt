@@ -1,6 +1,7 @@
 //! A tape that a snapshot can be written on.
-ghost use Rattle.std.specs.Prelude.{◌≡◌, [], ⊤, IfOk};
-ghost use Rattle.journal_file.specs.Relayed.{relayed_leaves, relayed_seen};
+ghost use Rattle.std.specs.Prelude.{◌≡◌, [], ⊤, IfOk, replicate};
+ghost use Rattle.journal_file.specs.Owner.{owner_of_held};
+ghost use Rattle.journal_file.specs.Relayed.{relayed_leaves, relayed_owner, relayed_seen};
 ghost use Rattle.journal.specs.Lines.{IsWhole, recovered, text};
 ghost use Rattle.journal.specs.Tape.{IsOpen};
 
@@ -49,6 +50,8 @@ impl Machine for NoLine {
 
     ghost moves = { λ line old new. ⊥ };
 
+    ghost IsBad = { λ line at. ⊤ };
+
     fn apply(&mut self, _line: &[u8]) -> Result<(), JournalFault> {
         Err(JournalFault::BadLine)
     }
@@ -68,15 +71,23 @@ pub fn blank<U: Unread + Drop>(alloc: Global, mut unread: U) -> Result<Tape<U::F
     Ok(tape)
 }
 
+fn zeros() -> &'static [u8]
+    ensures { result.now ≡ replicate 65536 0 }
+{
+    &ZEROS
+}
+
 /// Takes a file of 65,536 zeros, which its owner has made and synced, and returns its tape, on which a snapshot can be
 /// written. Gives up with `Memory`.
 pub(crate) fn blank_relayed(alloc: Global, fd: i32) -> Result<Tape<Relayed>, JournalFault>
     ensures open_tape { IfOk result (λ tape. IsOpen relayed_seen relayed_leaves tape) }
     ensures whole { IfOk result (λ tape. IsWhole (text (relayed_seen tape.device))) }
     ensures blank { IfOk result (λ tape. recovered (relayed_seen tape.device) ≡ []) }
+    ensures owner { IfOk result (λ tape. relayed_owner tape.device ≡ owner_of_held fd (replicate 65536 0)) }
 {
-    let ends = replay_bytes(alloc, &ZEROS, &mut NoLine)?;
-    let mut tape = Tape::new(Relayed::new(alloc, fd, &ZEROS));
+    let file = zeros();
+    let ends = replay_bytes(alloc, file, &mut NoLine)?;
+    let mut tape = Tape::new(Relayed::new(alloc, fd, file));
     tape.recover(ends)?;
     Ok(tape)
 }

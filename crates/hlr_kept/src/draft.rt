@@ -33,6 +33,7 @@ impl<D: Device> Draft<D> {
         requires blank { recovered (D.Device.seen tape.device) ≡ [] }
         ensures draft { IfOk result (λ draft. IsDraft D.Device.seen D.Device.may_leave draft) }
         ensures lines { IfOk result (λ draft. draft_lines D.Device.seen draft ≡ first_line ∷ []) }
+        ensures owner { IfOk result (λ draft. D.Device.owner draft.tape.device ≡ D.Device.owner tape.device) }
     {
         let mut group = Vec::with_capacity(alloc, GROUP)?;
         push_first_line(&mut group)?;
@@ -45,6 +46,7 @@ impl<D: Device> Draft<D> {
         ensures draft { OnOk result (IsDraft D.seen D.may_leave self.new) }
         ensures lines { OnOk result (draft_lines D.seen self.new ≡ draft_lines D.seen self.old) }
         ensures gathered { OnOk result (self.new.group.items ≡ []) }
+        ensures owner { D.owner self.new.tape.device ≡ D.owner self.old.tape.device }
     {
         self.tape.append(&self.group)?;
         self.group.clear();
@@ -57,6 +59,7 @@ impl<D: Device> Draft<D> {
         requires change { is_change event.now ≡ true }
         ensures draft { OnOk result (IsDraft D.seen D.may_leave self.new) }
         ensures lines { OnOk result (draft_lines D.seen self.new ≡ draft_lines D.seen self.old ++ line_of event.now ∷ []) }
+        ensures owner { D.owner self.new.tape.device ≡ D.owner self.old.tape.device }
     {
         if self.group.len() > GROUP - LINE {
             self.flush()?;
@@ -73,6 +76,7 @@ impl<D: Device> Draft<D> {
         ensures open_tape { IfOk result (λ tape. IsOpen D.Device.seen D.Device.may_leave tape) }
         ensures whole { IfOk result (λ tape. IsWhole (text (D.Device.seen tape.device))) }
         ensures lines { IfOk result (λ tape. recovered (D.Device.seen tape.device) ≡ draft_lines D.Device.seen self) }
+        ensures owner { IfOk result (λ tape. D.Device.owner tape.device ≡ D.Device.owner self.tape.device) }
     {
         let Draft { mut tape, group } = self;
         tape.append(&group)?;

@@ -1,6 +1,7 @@
 //! A register with the journal that keeps it.
-ghost use Rattle.std.specs.Prelude.{◌≡◌, ◌⊎◌, ◌++◌, [], ◌∷◌, List, None, Some, Ok, Err, length, IfErr, IfOk, IfSome, OnErr, OnOk};
+ghost use Rattle.std.specs.Prelude.{◌≡◌, ◌⊎◌, ◌<◌, ◌≤◌, ◌+◌, ◌^◌, ◌++◌, [], ◌∷◌, List, None, Some, Ok, Err, length, IfErr, IfOk, IfSome, IsErrOf, OnErr, OnOk};
 ghost use Rattle.journal_file.specs.Device.{LeavesOnly};
+ghost use Rattle.journal_file.specs.declared.fault.JournalFault.TheVariants.{BadLine, Failed, Full, Locked, NoJournal};
 ghost use Rattle.journal.specs.Lines.{HasFence};
 ghost use Rattle.hlr_owners.specs.Owners.{AllHome, book_in, store_in};
 ghost use Rattle.hlr_owners.specs.Recut.{IsRecut};
@@ -141,6 +142,10 @@ impl<D: Device> Journaled<D> {
         ensures idle { self.old.journal.group.items ≡ [] → self.old.journal.fault ≡ None → (result ≡ Ok tt) × (self.new ≡ self.old) }
         ensures broken { IfErr result (λ why. self.new.journal.fault ≡ Some why) }
         ensures stays { IfSome self.old.journal.fault (λ why. (result ≡ Err why) × (self.new ≡ self.old)) }
+        // It gives up only for want of memory, if the disk fails, or if the file would pass 2^61 bytes.
+        ensures failed { self.old.journal.fault ≡ None → IsErrOf result Failed → D.faults self.old.journal.tape.device < D.faults self.new.journal.tape.device }
+        ensures full { self.old.journal.fault ≡ None → IsErrOf result Full → 2 ^ 61 ≤ self.old.journal.tape.len + length self.old.journal.group.items }
+        ensures no_other { self.old.journal.fault ≡ None → (IsErrOf result NoJournal → ⊥) × (IsErrOf result BadLine → ⊥) × (IsErrOf result Locked → ⊥) }
     {
         self.journal.sync()
     }

@@ -3,7 +3,7 @@ ghost use Rattle.std.specs.Prelude.{◌≡◌, ◌⊎◌, ◌<◌, ◌≤◌, �
 ghost use Rattle.tatp_actions.specs.Book.{Book};
 ghost use Rattle.journal_file.specs.Device.{LeavesOnly};
 ghost use Rattle.journal_file.specs.Relayed.{relayed_leaves, relayed_seen};
-ghost use Rattle.journal_file.specs.declared.fault.JournalFault.TheVariants.{Failed, Full, NoJournal};
+ghost use Rattle.journal_file.specs.declared.fault.JournalFault.TheVariants.{BadLine, Failed, Full, Locked, NoJournal};
 ghost use Rattle.journal.specs.Lines.{HasFence};
 ghost use Rattle.edit_lines.specs.Lines.{has_line, is_change};
 ghost use Rattle.hlr_owners.specs.Store.{Store};
@@ -107,7 +107,8 @@ impl<D: Device> Journal<D> {
         // It gives up only if the disk fails, or the file would pass 2^61 bytes.
         ensures failed { self.old.fault ≡ None → IsErrOf result Failed → D.faults self.old.tape.device < D.faults self.new.tape.device }
         ensures full { self.old.fault ≡ None → IsErrOf result Full → 2 ^ 61 ≤ self.old.tape.len + length self.old.group.items }
-        ensures journal { self.old.fault ≡ None → IsErrOf result NoJournal → ⊥ }
+        ensures no_other { self.old.fault ≡ None → (IsErrOf result NoJournal → ⊥) × (IsErrOf result BadLine → ⊥) × (IsErrOf result Locked → ⊥) }
+        ensures owner { D.owner self.new.tape.device ≡ D.owner self.old.tape.device }
     {
         if let Some(fault) = self.fault {
             return Err(fault);
@@ -180,16 +181,5 @@ impl Journal<Relayed> {
         if self.fault.is_none() {
             self.fault = Some(JournalFault::Failed);
         }
-    }
-
-    /// Checks that the journal lies in the file that its owner knows by a number. It always does, and then the clauses
-    /// of a call can say so.
-    pub(crate) fn check_file(&self, fd: i32) -> Result<(), JournalFault>
-        ensures { OnOk result (self.now.tape.device.fd ≡ fd) }
-    {
-        if self.tape.device.fd() != fd {
-            return Err(JournalFault::Failed);
-        }
-        Ok(())
     }
 }

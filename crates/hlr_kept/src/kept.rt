@@ -1,6 +1,7 @@
 //! A register that hands an answer out only once it is on the disk.
-ghost use Rattle.std.specs.Prelude.{◌≡◌, ◌⊎◌, ◌++◌, [], ◌∷◌, List, Some, Err, length, IfErr, IfOk, IfSome, OnErr, OnOk};
+ghost use Rattle.std.specs.Prelude.{◌≡◌, ◌⊎◌, ◌<◌, ◌≤◌, ◌+◌, ◌^◌, ◌++◌, [], ◌∷◌, List, ℕ, None, Some, Err, length, take, IfErr, IfOk, IfSome, IsErrOf, OnErr, OnOk};
 ghost use Rattle.journal_file.specs.Device.{LeavesOnly};
+ghost use Rattle.journal_file.specs.declared.fault.JournalFault.TheVariants.{BadLine, Failed, Full, Locked, NoJournal};
 ghost use Rattle.journal.specs.Lines.{HasFence};
 ghost use Rattle.hlr_owners.specs.Owners.{store_in};
 ghost use Rattle.hlr_owners.specs.Store.{Store};
@@ -10,6 +11,7 @@ ghost use Rattle.hlr_core.specs.declared.order.Order.{Order};
 ghost use Rattle.hlr_kept.specs.Runs.{StandsAfterSome};
 ghost use Rattle.hlr_kept.specs.UnderWay.{AreHeld, IsReady, IsUnchanged, IsUnderWay};
 
+use crate::blank_tape::NextTape;
 use crate::journaled::Journaled;
 use hlr_core::{Answer, Order, Register, RowReply};
 use journal::{Device, JournalFault};
@@ -77,7 +79,12 @@ impl<D: Device> Kept<D> {
         // Without a sync no answer is handed over, and after one that gave up none ever is.
         ensures held_back { OnErr result (self.new.held.items ≡ self.old.held.items) }
         ensures broken { IfErr result (λ why. self.new.journaled.journal.fault ≡ Some why) }
+        ensures written { OnOk result (self.new.journaled.journal.group.items ≡ []) }
         ensures stays { IfSome self.old.journaled.journal.fault (λ why. (result ≡ Err why) × (self.new.journaled ≡ self.old.journaled)) }
+        // It gives up only for want of memory, if the disk fails, or if the file would pass 2^61 bytes.
+        ensures failed { self.old.journaled.journal.fault ≡ None → IsErrOf result Failed → D.faults self.old.journaled.journal.tape.device < D.faults self.new.journaled.journal.tape.device }
+        ensures full { self.old.journaled.journal.fault ≡ None → IsErrOf result Full → 2 ^ 61 ≤ self.old.journaled.journal.tape.len + length self.old.journaled.journal.group.items }
+        ensures no_other { self.old.journaled.journal.fault ≡ None → (IsErrOf result NoJournal → ⊥) × (IsErrOf result BadLine → ⊥) × (IsErrOf result Locked → ⊥) }
     {
         self.journaled.sync()?;
         let none = Vec::new(self.alloc);
@@ -102,6 +109,10 @@ impl<D: Device> Kept<D> {
             → LeavesOnly D.moment D.left_since self.old.journaled.journal.tape.device self.new.journaled.journal.tape.device
             (λ c. HasFence c × (answers : List Answer) × StandsAfterSome (earlier ++ orders.now) answers stored c) }
         ensures broken { IfSome self.old.journaled.journal.fault (λ why. OnOk result ⊥) }
+        // After a refusal, the answers to the first so many orders are held, unless a sync has failed.
+        ensures held { OnErr result ((stored : Store) (earlier : List Order)
+            → AreHeld D.seen D.may_leave stored earlier self.old → self.new.journaled.journal.fault ≡ None
+            → (n : ℕ) × AreHeld D.seen D.may_leave stored (earlier ++ take n orders.now) self.new) }
     {
         for order in orders {
             self.submit(order)?;
@@ -121,5 +132,39 @@ impl<D: Device> Kept<D> {
         ensures { result ≡ length self.now.journaled.journal.group.items }
     {
         self.journaled.unsynced()
+    }
+
+    /// Lets [`Kept::sync_or_compact`] put a snapshot in the place of the journal, as [`Journaled::compact_from`] says.
+    pub fn compact_from(&mut self, least: usize)
+        ensures journaled { IsUnchanged self.old.journaled self.new.journaled }
+        ensures held { self.new.held ≡ self.old.held }
+    {
+        self.journaled.compact_from(least);
+    }
+}
+
+impl<D: NextTape> Kept<D> {
+    /// Syncs as [`Kept::sync`] does, and puts a snapshot in the place of the journal if one is due, as
+    /// [`Journaled::sync_or_compact`] does. Hands over the answers that were held, in the order of their orders.
+    pub fn sync_or_compact(&mut self) -> Result<Vec<Answer>, JournalFault>
+        requires ready { IsReady D.Device.seen D.Device.may_leave self.old.journaled }
+        ensures ready { IsReady D.Device.seen D.Device.may_leave self.new.journaled }
+        ensures answers { IfOk result (λ answers. answers.items ≡ self.old.held.items) }
+        ensures settled { OnOk result ((stored : Store) (orders : List Order)
+            → AreHeld D.Device.seen D.Device.may_leave stored orders self.old
+            → AreHeld D.Device.seen D.Device.may_leave (store_in self.new.journaled.register) [] self.new) }
+        ensures register { self.new.journaled.register ≡ self.old.journaled.register }
+        ensures any_moment { (stored : Store) (orders : List Order)
+            → AreHeld D.Device.seen D.Device.may_leave stored orders self.old
+            → LeavesOnly D.Device.moment D.Device.left_since self.old.journaled.journal.tape.device self.new.journaled.journal.tape.device
+            (λ c. HasFence c × StandsAfterSome orders self.old.held.items stored c) }
+        // Without a sync no answer is handed over, and after one that gave up none ever is.
+        ensures held_back { OnErr result (self.new.held.items ≡ self.old.held.items) }
+        ensures broken { IfErr result (λ why. self.new.journaled.journal.fault ≡ Some why) }
+        ensures stays { IfSome self.old.journaled.journal.fault (λ why. (result ≡ Err why) × (self.new.journaled.journal.fault ≡ Some why)) }
+    {
+        self.journaled.sync_or_compact()?;
+        let none = Vec::new(self.alloc);
+        Ok(std::mem::replace(&mut self.held, none))
     }
 }

@@ -44,7 +44,5 @@ pub use laws::{
 };
 pub use opening::{open, open_journal, open_relayed};
 pub use restoring::{redo, tells_done};
-pub use snapshots::{
-    compact, snapshot, snapshot_journal, snapshot_relayed, snapshots_stand_for_books,
-};
+pub use snapshots::{snapshot, snapshot_journal, snapshot_relayed, snapshots_stand_for_books};
 pub use writing::begin;

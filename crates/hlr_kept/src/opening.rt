@@ -1,18 +1,21 @@
 //! Opens a register from its journal.
-ghost use Rattle.std.specs.Prelude.{◌≡◌, [], ◌∷◌, true, false, List, ℕ, IfOk, OnOk, Some};
+ghost use Rattle.std.specs.Prelude.{◌≡◌, ◌≢◌, ◌⊎◌, ◌<◌, [], ◌∷◌, true, false, List, ℕ, IfErr, IfOk, OnOk, Ok, Some};
 ghost use Rattle.part_table.specs.Regions.{pieces_of};
 ghost use Rattle.tatp_actions.specs.Book.{empty_book};
 ghost use Rattle.journal_file.specs.Device.{LeavesOnly, Only};
-ghost use Rattle.journal_file.specs.Relayed.{relayed_leaves, relayed_left_since, relayed_moment, relayed_seen};
+ghost use Rattle.journal_file.specs.Owner.{owner_of_held};
+ghost use Rattle.journal_file.specs.Relayed.{relayed_leaves, relayed_left_since, relayed_moment, relayed_owner, relayed_seen};
+ghost use Rattle.journal_file.specs.declared.fault.JournalFault.TheVariants.{BadLine, Failed, NoJournal};
 ghost use Rattle.journal_file.specs.declared.record.Step.TheVariants.{Held};
 ghost use Rattle.journal_file.specs.declared.relayed.Relayed.{Relayed};
 ghost use Rattle.journal.specs.Lines.{HasFence};
 ghost use Rattle.journal.specs.Tape.{AreEnds};
+ghost use Rattle.edit_lines.specs.Reading.{first_checked};
 ghost use Rattle.hlr_owners.specs.Owners.{AllHome, book_in, store_in};
 ghost use Rattle.hlr_owners.specs.Store.{Store};
 ghost use Rattle.hlr_kept.specs.Keeping.{IsSettled, StandsFor};
-ghost use Rattle.hlr_kept.specs.Restored.{Restores};
-ghost use Rattle.hlr_kept.specs.Rows.{HasOtherRows, book_of};
+ghost use Rattle.hlr_kept.specs.Restored.{IsBadFor, Restores};
+ghost use Rattle.hlr_kept.specs.Rows.{HasOtherRows, IsNotOpened, book_of};
 ghost use Rattle.hlr_kept.specs.UnderWay.{IsReady, IsUnderWay};
 
 use crate::journaled::{Journaled, Snapshots};
@@ -37,6 +40,8 @@ impl Machine for Restored {
 
     ghost moves = { Restores };
 
+    ghost IsBad = { IsBadFor };
+
     fn apply(&mut self, line: &[u8]) -> Result<(), JournalFault> {
         if !self.is_begun {
             return self.begin(line);
@@ -54,6 +59,7 @@ impl Restored {
         requires { self.old.is_begun ≡ false }
         ensures register { self.new.register ≡ self.old.register }
         ensures moves { OnOk result (Restores line.now self.old self.new) }
+        ensures refused { IfErr result (λ why. (why ≡ BadLine) × (first_checked line.now ≢ Ok tt)) }
     {
         if check_first_line(line).is_err() {
             return Err(JournalFault::BadLine);
@@ -79,6 +85,7 @@ fn restore<U: Unread>(
     ensures rows { IfOk result (λ both. book_of (U.read unread.new) ≡ Some (book_in both.0.owners)) }
     ensures home { IfOk result (λ both. AllHome both.0.owners) }
     ensures stays { IfOk result (λ both. HasOtherRows register both.0) }
+    ensures refused { IfErr result (λ why. (why ≡ Failed) ⊎ (IsNotOpened (U.read unread.new) why × (why ≢ NoJournal))) }
 {
     let mut restored = Restored {
         register,
@@ -101,6 +108,7 @@ fn restore_bytes(
     ensures rows { IfOk result (λ both. book_of bytes.now ≡ Some (book_in both.0.owners)) }
     ensures home { IfOk result (λ both. AllHome both.0.owners) }
     ensures stays { IfOk result (λ both. HasOtherRows register both.0) }
+    ensures refused { IfErr result (λ why. IsNotOpened bytes.now why) }
 {
     let mut restored = Restored {
         register,
@@ -123,6 +131,9 @@ fn resume<D: Device + Drop>(
     ensures settled { IfOk result (λ journal. IsSettled journal) }
     ensures any_moment { IfOk result (λ journal. LeavesOnly D.Device.moment D.Device.left_since device journal.tape.device
         (λ c. HasFence c × (book_of c ≡ book_of (D.Device.seen device)))) }
+    ensures owner { IfOk result (λ journal. D.Device.owner journal.tape.device ≡ D.Device.owner device) }
+    ensures refused { IfErr result (λ why. ((why ≡ Failed) × (after : _) × (D.Device.faults device < D.Device.faults after))
+        ⊎ IsNotOpened (D.Device.seen device) why) }
 {
     let mut tape = Tape::new(device);
     begin(alloc, &mut tape, ends)?;
@@ -151,6 +162,8 @@ pub fn open_journal<U: Unread + Drop>(
     ensures home { IfOk result (λ both. AllHome both.0.owners) }
     ensures stands { IfOk result (λ both. StandsFor U.File.seen U.File.may_leave (book_in both.0.owners) both.1) }
     ensures settled { IfOk result (λ both. IsSettled both.1) }
+    // If the disk works and memory is there, only a file that isn't a journal is refused.
+    ensures refused { IfErr result (λ why. (why ≡ Failed) ⊎ ((last : U) × IsNotOpened (U.read last) why × (why ≡ NoJournal → U.IsRead last))) }
 {
     let mut unread = unread;
     let (register, ends) = restore(alloc, register, &mut unread)?;
@@ -177,11 +190,11 @@ pub fn open_relayed(
     ensures home { IfOk result (λ both. AllHome both.0.owners) }
     ensures stands { IfOk result (λ both. StandsFor relayed_seen relayed_leaves (book_in both.0.owners) both.1) }
     ensures settled { IfOk result (λ both. IsSettled both.1) }
-    ensures file { IfOk result (λ both. both.1.tape.device.fd ≡ fd) }
+    ensures owner { IfOk result (λ both. relayed_owner both.1.tape.device ≡ owner_of_held fd bytes.now) }
+    ensures refused { IfErr result (λ why. IsNotOpened bytes.now why) }
 {
     let (register, ends) = restore_bytes(alloc, register, bytes)?;
     let journal = resume(alloc, Relayed::new(alloc, fd, bytes), ends)?;
-    journal.check_file(fd)?;
     Ok((register, journal))
 }
 
@@ -201,6 +214,7 @@ pub fn open<U: Unread + Drop>(
     ensures settled { IfOk result (λ now. IsUnderWay U.File.seen U.File.may_leave (store_in now.register) [] [] now) }
     ensures ready { IfOk result (λ now. IsReady U.File.seen U.File.may_leave now) }
     ensures pieces { IfOk result (λ now. pieces_of now.register.regions ≡ []) }
+    ensures refused { IfErr result (λ why. (why ≡ Failed) ⊎ ((last : U) × IsNotOpened (U.read last) why × (why ≡ NoJournal → U.IsRead last))) }
 {
     let (register, journal) = open_journal(alloc, register, unread)?;
     Ok(Journaled {

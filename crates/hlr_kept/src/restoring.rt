@@ -32,7 +32,7 @@ pub fn redo(register: &mut Register, line: &[u8]) -> Option<JournalFault>
     ensures pieces { pieces_of register.new.regions ≡ [] }
     ensures stays { HasOtherRows register.old register.new }
     ensures done { result ≡ None → book_after_line line.now (Some (book_in register.old.owners)) ≡ Some (book_in register.new.owners) }
-    ensures refused { IfSome result (λ why. (why ≡ JournalFault.Memory) ⊎ (book_after_line line.now (Some (book_in register.old.owners)) ≡ None)) }
+    ensures refused { IfSome result (λ why. (why ≡ JournalFault.Memory) ⊎ ((why ≡ JournalFault.BadLine) × (book_after_line line.now (Some (book_in register.old.owners)) ≡ None))) }
 {
     let Ok(event) = read_line(line) else {
         return Some(JournalFault::BadLine);

@@ -1,9 +1,9 @@
 //! Snapshots: short journals whose lines make the rows of a register anew.
-ghost use Rattle.std.specs.Prelude.{◌≡◌, ◌<◌, ◌++◌, [], map, OnOk, IfOk, Some, IsSome};
+ghost use Rattle.std.specs.Prelude.{◌≡◌, ◌<◌, ◌++◌, [], map, replicate, OnOk, IfOk, IsSome};
 ghost use Rattle.std.specs.List.{AllByRecursion};
-ghost use Rattle.journal_file.specs.Device.{LeavesOnly};
-ghost use Rattle.journal_file.specs.Relayed.{relayed_leaves, relayed_seen};
-ghost use Rattle.journal.specs.Lines.{HasFence, IsWhole, recovered, text};
+ghost use Rattle.journal_file.specs.Owner.{owner_of_held};
+ghost use Rattle.journal_file.specs.Relayed.{relayed_leaves, relayed_owner, relayed_seen};
+ghost use Rattle.journal.specs.Lines.{IsWhole, recovered, text};
 ghost use Rattle.journal.specs.Tape.{IsOpen};
 ghost use Rattle.tatp_rows.specs.Keys.{subscriber_key};
 ghost use Rattle.tatp_rows.specs.Ordered.{IsOrderedBy};
@@ -13,7 +13,6 @@ ghost use Rattle.hlr_owners.specs.Owners.{AllHome, book_in, store_in};
 ghost use Rattle.hlr_core.specs.Numbers.{HasNoTwin};
 ghost use Rattle.hlr_kept.specs.Draft.{AreKeyed, IsDraft, draft_lines};
 ghost use Rattle.hlr_kept.specs.Keeping.{IsSettled, StandsFor};
-ghost use Rattle.hlr_kept.specs.Rows.{book_of};
 ghost use Rattle.hlr_kept.specs.Runs.{IsOnDisk};
 ghost use Rattle.hlr_kept.specs.Snapshot.{SnapshotsStandForBooks};
 
@@ -22,7 +21,7 @@ use crate::draft::Draft;
 use crate::keeping::Journal;
 use crate::table_rows::SnapshotRow;
 use hlr_core::{Access, Facility, Forwarding, FromRow, KeyFields, Register, Subscriber};
-use journal::{Device, JournalFault, Relayed, Replace, Tape, Unread};
+use journal::{Device, JournalFault, Relayed, Tape, Unread};
 use std::alloc::Global;
 
 /// How many rows are read at a time.
@@ -55,6 +54,7 @@ fn put_rows<V: SnapshotRow, D: Device>(
     ensures draft { OnOk result (IsDraft D.seen D.may_leave draft.new) }
     ensures lines { OnOk result (draft_lines D.seen draft.new
         ≡ draft_lines D.seen draft.old ++ map line_of (map (V.event (book_in register.now.owners).subscribers) rows.now)) }
+    ensures owner { D.owner draft.new.tape.device ≡ D.owner draft.old.tape.device }
 {
     for row in rows {
         draft.put(&row.to_event(register))?;
@@ -77,6 +77,7 @@ fn put_table<V: SnapshotRow + FromRow<V>, D: Device>(
     ensures draft { OnOk result (IsDraft D.seen D.may_leave draft.new) }
     ensures lines { OnOk result (draft_lines D.seen draft.new
         ≡ draft_lines D.seen draft.old ++ map line_of (map (V.SnapshotRow.event (book_in register.now.owners).subscribers) (V.TableRow.table (book_in register.now.owners)))) }
+    ensures owner { D.owner draft.new.tape.device ≡ D.owner draft.old.tape.device }
 {
     let mut page = Vec::new(alloc);
     page.resize(PAGE, V::default())?;
@@ -108,6 +109,7 @@ pub fn snapshot<D: Device + Drop>(
     requires whole { IsWhole (text (D.Device.seen next.device)) }
     requires blank { recovered (D.Device.seen next.device) ≡ [] }
     ensures stored { IfOk result (λ tape. IsOnDisk D.Device.seen D.Device.may_leave (store_in register.now) tape) }
+    ensures owner { IfOk result (λ tape. D.Device.owner tape.device ≡ D.Device.owner next.device) }
 {
     rules(register);
     let mut draft = Draft::begin(alloc, next)?;
@@ -149,33 +151,9 @@ pub fn snapshot_relayed(
     requires home { AllHome register.now.owners }
     ensures stands { IfOk result (λ journal. StandsFor relayed_seen relayed_leaves (book_in register.now.owners) journal) }
     ensures settled { IfOk result (λ journal. IsSettled journal) }
-    ensures file { IfOk result (λ journal. journal.tape.device.fd ≡ fd) }
+    ensures owner { IfOk result (λ journal. relayed_owner journal.tape.device ≡ owner_of_held fd (replicate 65536 0)) }
 {
     let next = blank_relayed(alloc, fd)?;
     let tape = snapshot(alloc, register, next)?;
-    let journal = Journal::new(alloc, tape);
-    journal.check_file(fd)?;
-    Ok(journal)
-}
-
-/// Puts a snapshot of a register in the place of its journal, all of which is on the disk. A crash at any moment of the
-/// call leaves a file that stands for the rows of the register. Gives up as [`snapshot`] and `journal::compact` do.
-/// After a snapshot that gave up, the journal can be written on; after a replacement that did, it is to be opened again.
-pub fn compact<D: Replace + Drop>(
-    alloc: Global,
-    register: &Register,
-    tape: &mut Tape<D>,
-    next: Tape<D>,
-) -> Result<(), JournalFault>
-    requires home { AllHome register.now.owners }
-    requires stored { IsOnDisk D.Device.seen D.Device.may_leave (store_in register.now) tape.old }
-    requires open_tape { IsOpen D.Device.seen D.Device.may_leave next }
-    requires whole { IsWhole (text (D.Device.seen next.device)) }
-    requires blank { recovered (D.Device.seen next.device) ≡ [] }
-    ensures stored { OnOk result (IsOnDisk D.Device.seen D.Device.may_leave (store_in register.now) tape.new) }
-    ensures any_moment { LeavesOnly D.Device.moment D.Device.left_since tape.old.device tape.new.device
-        (λ c. HasFence c × (book_of c ≡ Some (book_in register.now.owners))) }
-{
-    let next = snapshot(alloc, register, next)?;
-    journal::compact(tape, next)
+    Ok(Journal::new(alloc, tape))
 }

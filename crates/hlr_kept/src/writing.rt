@@ -1,10 +1,11 @@
 //! Makes a file ready to be written.
-ghost use Rattle.std.specs.Prelude.{◌≡◌, OnOk, Some};
+ghost use Rattle.std.specs.Prelude.{◌≡◌, ◌⊎◌, ◌<◌, IfErr, OnOk, Some};
 ghost use Rattle.journal_file.specs.Device.{LeavesOnly, Only};
+ghost use Rattle.journal_file.specs.declared.fault.JournalFault.TheVariants.{Failed};
 ghost use Rattle.journal.specs.Lines.{HasFence};
 ghost use Rattle.journal.specs.Tape.{AreEnds};
 ghost use Rattle.hlr_owners.specs.Store.{Store};
-ghost use Rattle.hlr_kept.specs.Rows.{book_of};
+ghost use Rattle.hlr_kept.specs.Rows.{IsNotOpened, book_of};
 ghost use Rattle.hlr_kept.specs.Runs.{IsOnDisk};
 
 use edit_lines::push_first_line;
@@ -22,6 +23,9 @@ pub fn begin<D: Device>(alloc: Global, tape: &mut Tape<D>, ends: Ends) -> Result
     ensures fenced { OnOk result (HasFence (D.seen tape.old.device)) }
     ensures any_moment { HasFence (D.seen tape.old.device) → LeavesOnly D.moment D.left_since tape.old.device tape.new.device
         (λ c. HasFence c × (book_of c ≡ book_of (D.seen tape.old.device))) }
+    ensures owner { D.owner tape.new.device ≡ D.owner tape.old.device }
+    ensures refused { IfErr result (λ why. ((why ≡ Failed) × (D.faults tape.old.device < D.faults tape.new.device))
+        ⊎ IsNotOpened (D.seen tape.old.device) why) }
 {
     tape.recover(ends)?;
     if ends.whole > 0 {

@@ -1,4 +1,4 @@
-use Rattle.std.proofs.Common.{sym, ap, ◌∙◌, inr}
+use Rattle.std.proofs.Common.{refl, sym, ap, ◌∙◌, inr}
 use Rattle.part_table.specs.Regions.{pieces_of}
 use Rattle.tatp_rows.proofs.RowLemmas.{both}
 use Rattle.hlr_owners.specs.Owners.{book_in, store_in}
@@ -29,9 +29,12 @@ returns-clause-pieces c =
 
 pub returns-clause-refused : goal.returns-clause-refused
 returns-clause-refused c =
-    inr (ap (λ read. book_after_read read (book_in c.args.register.now.owners)) (sym c.in-Ok.ensures.exact)
-    ∙ not_again c.in-Ok.event (store_in c.args.register.now) (store_in c.apply-reply.new.self) c.apply-reply.result (both _ _ c.in-Ok.ensures.read.0).0 c.requires.pieces
-    (sym c.tells_done.ensures ∙ c.if-tells_done.false) (sym c.wants_memory.ensures ∙ c.if-wants_memory.false) c.apply-reply.ensures.step)
+    inr (
+      refl,
+      ap (λ read. book_after_read read (book_in c.args.register.now.owners)) (sym c.in-Ok.ensures.exact)
+          ∙ not_again c.in-Ok.event (store_in c.args.register.now) (store_in c.apply-reply.new.self) c.apply-reply.result (both _ _ c.in-Ok.ensures.read.0).0 c.requires.pieces
+          (sym c.tells_done.ensures ∙ c.if-tells_done.false) (sym c.wants_memory.ensures ∙ c.if-wants_memory.false) c.apply-reply.ensures.step,
+    )
 
 pub returns-then-tells_done-clause-stays : goal.returns-then-tells_done-clause-stays
 returns-then-tells_done-clause-stays c = other_rows c.in-Ok.event (store_in c.args.register.now) (store_in c.apply-reply.new.self) c.apply-reply.result (both _ _ c.in-Ok.ensures.read.0).0 c.apply-reply.ensures.step

@@ -14,7 +14,7 @@ loop-page-init g c =
     let book = book_in c.args.register.now.owners in
     let starts = reading_starts g.V.TableRow.fields (g.V.SnapshotRow.event book.subscribers) g.D.Device.seen g.D.Device.may_leave (g.V.TableRow.table book) (draft_lines g.D.Device.seen c.args.draft.now)
     c.args.draft.now (record { is_draft = c.requires.draft; lines = refl }) in
-    (starts, omega (arith, c.in_ok-resize.ensures.len, c.resize.new.self.ok.0))
+    (starts, omega (arith, c.in_ok-resize.ensures.len, c.resize.new.self.ok.0), refl)
 
 pub returns-then-count-eq0-clause-lines : goal.returns-then-count-eq0-clause-lines
 returns-then-count-eq0-clause-lines g c =
@@ -77,4 +77,10 @@ loop-page-preserved g c =
     let is = page_read g.V.FromRow.of_row c.requires.same rest c.deref_mut.result.now c.write_rows-count.result rows c.write_rows-count.ensures in
     let whole = page_whole c.loop-page.page.len rows c.loop-page.page.items c.loop-page.page.ok.0 (is.0 ∙ ap length c.deref_mut.ensures.value) in
     let room : 0 < length rows = omega (arith, c.loop-page.invariant.1, is.0, ap length c.deref_mut.ensures.value) in
-    ((further g c).reading, subst (λ (l : List _). 0 < length l) (sym whole) room)
+    ((further g c).reading, subst (λ (l : List _). 0 < length l) (sym whole) room, c.put_rows.ensures.owner ∙ c.loop-page.invariant.2)
+
+pub returns-then-count-eq0-clause-owner : goal.returns-then-count-eq0-clause-owner
+returns-then-count-eq0-clause-owner g c = c.loop-page.invariant.2
+
+pub returns-in_err-put_rows-clause-owner : goal.returns-in_err-put_rows-clause-owner
+returns-in_err-put_rows-clause-owner g c = c.put_rows.ensures.owner ∙ c.loop-page.invariant.2

@@ -43,4 +43,6 @@ returns g c =
     record {
       stored = snapshot_stored g.D.Device.seen g.D.Device.may_leave store c.rules.ensures.rules c.rules.ensures.alone (lines c.put_table-4.new.draft) c.in_ok-tape.tape c.sync.new.self (fourth ∙ sym (by_tables book))
           c.in_ok-tape.ensures.whole c.in_ok-tape.ensures.lines c.in_ok-sync.ensures.is_open c.in_ok-sync.ensures.acknowledged c.in_ok-sync.ensures.same;
+      owner = c.sync.ensures.owner ∙ c.in_ok-tape.ensures.owner ∙ c.put_table-4.ensures.owner ∙ c.put_table-3.ensures.owner ∙ c.put_table-2.ensures.owner ∙ c.put_table.ensures.owner
+          ∙ c.in_ok-draft.ensures.owner;
     }

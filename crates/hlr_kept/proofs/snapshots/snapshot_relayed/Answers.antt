@@ -8,6 +8,6 @@ use Rattle.hlr_kept.proofs.snapshots.snapshot_relayed.Goals as goal
 pub returns-clause-stands : goal.returns-clause-stands
 returns-clause-stands c =
     let store = store_in c.args.register.now in
-    disk_stands relayed_seen relayed_leaves store c.new-journal.result
-    (subst (λ (tape : _). IsOnDisk relayed_seen relayed_leaves store tape) (sym c.new-journal.ensures.tape) c.in_ok-tape.ensures.stored)
-    c.new-journal.ensures.settled.1
+    disk_stands relayed_seen relayed_leaves store c.new.result
+    (subst (λ (tape : _). IsOnDisk relayed_seen relayed_leaves store tape) (sym c.new.ensures.tape) c.in_ok-tape.ensures.stored)
+    c.new.ensures.settled.1

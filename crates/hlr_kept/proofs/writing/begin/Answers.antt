@@ -1,5 +1,10 @@
-use Rattle.std.proofs.Common.{arith, rules, ◌∙◌}
+use Rattle.std.specs.Prelude.{Err}
+use Rattle.std.proofs.Common.{◌≡◌, ◌++◌, ◌∙◌, [], ◌∷◌, List, ℕ, ap, arith, length, rules}
+use Rattle.std.proofs.lemmas.Result.{err_from_is_err_and}
+use Rattle.journal.proofs.RefusedLemmas.{handed_on}
+use Rattle.edit_lines.specs.Lines.{first_line}
 use Rattle.hlr_kept.proofs.BeginLemmas.{begins, first_group, has_first, has_none, recovers, stored_first, stored_new}
+use Rattle.hlr_kept.proofs.RestoredLemmas.{not_begun}
 use Rattle.hlr_kept.proofs.writing.begin.Goals as goal
 
 pub commit-requires : goal.commit-requires
@@ -49,3 +54,15 @@ returns-clause-any_moment g c = λ fenced.
     let before = recovers seen g.D.Device.moment g.D.Device.left_since old c.recover.new.self.device c.recover.ensures.any_moment (c.recover.ensures.fence fenced) in
     begins seen g.D.Device.moment g.D.Device.left_since old c.recover.new.self.device c.commit.new.self.device c.deref.result.now before c.in_ok-recover.ensures.lines
     (has_none (seen old) c.args.ends c.requires.ends (omega (arith, c.if-ends-gt0.false))) group c.commit.ensures.any_moment
+
+pub returns-in_err-commit-clause-refused : goal.returns-in_err-commit-clause-refused
+returns-in_err-commit-clause-refused g c =
+    let passed = err_from_is_err_and c.from_residual-in_err-commit.result c.from_residual-in_err-commit.ensures.1 in
+    let none : c.new-first.result.items ≡ [] = search rules in
+    let long : length c.deref.result.now ≡ 14 =
+    ap length (c.deref.ensures.value ∙ c.in_ok-push_first_line.ensures.ok ∙ ap (λ (l : List ℕ). l ++ (first_line ++ 10 ∷ [])) none) in
+    let why = c.in_err-commit.ensures in
+    handed_on c.from_residual-in_err-commit.result _ passed.0 c.in_err-commit.field-0.0 passed.1 passed.2
+    (not_begun (g.D.Device.seen c.args.tape.now.device) _ c.in_err-commit.field-0.0 (λ is. omega (arith, why.failed (ap Err is), c.recover.ensures.cause))
+    (λ is. omega (arith, why.full (ap Err is), long, c.in_ok-recover.ensures.len, c.requires.ends.at_end))
+    (λ is fence. why.journal (ap Err is)) (λ is. why.no_other.0 (ap Err is)) (λ is. why.no_other.1 (ap Err is)))
