@@ -10,6 +10,10 @@ use Rattle.hlr.specs.Orders.{answers_in}
 use Rattle.hlr.specs.Text.{RecordsText}
 use Rattle.hlr.specs.declared.fault.Fault.TheVariants as fault
 use Rattle.journal.proofs.MomentLemmas.{joined, weaker}
+use Rattle.journal.proofs.OpenLemmas.{all_only, open_fence}
+use Rattle.journal.specs.Lines.{HasFence}
+use Rattle.hlr_kept.specs.Rows.{book_of}
+use Rattle.hlr.specs.Journaled.{AreAcknowledged}
 use Rattle.hlr_kept.proofs.UnderWayLemmas.{carried, stands_now, unchanged_under_way}
 use Rattle.hlr.proofs.OrderFacts.{answered_records, records_run}
 use Rattle.hlr.proofs.RunFacts.{if_known, if_some, is_stop, keeps_same, read_all, read_is_no_write, read_more, read_none, stopped_at_last, stopped_by_read}
@@ -275,8 +279,8 @@ module _ {D : Type 0} (seen : D → List ℕ) (may_leave : D → List ℕ → Ty
         }
 
     -- or the journal failed
-    pub kept_cut : (stopped : Bool) → stopped ≡ true → AreCutOff moment left_since rows start first after.journal.tape.device old new stopped
-    kept_cut stopped failed =
+    pub kept_cut : (counts_now : (d : D) (t : ℕ) (c : List ℕ) → t ≤ moment d → may_leave d c → left_since d t c) (stopped : Bool) → stopped ≡ true → AreCutOff may_leave moment left_since rows start first after.journal.tape.device old new stopped
+    kept_cut counts_now stopped failed =
         let told = all_told (store_in before.register) refl in
         record {
           text = was.told ++ was.text;
@@ -285,7 +289,37 @@ module _ {D : Type 0} (seen : D → List ℕ) (may_leave : D → List ℕ → Ty
           front = adds_front_wider was.told was.text old new (adds_unflushed was.told was.unsent old new.taken new.taken was.grew (keeps_same new.taken));
           told = failed;
           leaves = all_left (answers_in rows start (was.told ++ was.text) (store_in before.register) told.0) told.1;
+          acknowledged = record {
+            kept = was.kept;
+            held = was.held;
+            all = was.all;
+            text = was.told;
+            stored = was.stored;
+            on_disk = was.on_disk;
+            told = adds_unflushed was.told was.unsent old new.taken new.taken was.grew (keeps_same new.taken);
+            answers = answers_in was.held was.stored was.text (store_in before.register) was.waiting;
+            leaves = λ c may. left.each c (counts_now after.journal.tape.device (moment before.journal.tape.device) c left.later may);
+          };
         }
+
+  -- records that are on the disk, of whose text a front was taken
+  pub disk_acknowledged : (rows : List (List (List ℕ))) (start stored : Store) (text : List ℕ) (tape : Tape D) (took : List ℕ → Type 0) → RecordsText rows start text stored
+      → IsOnDisk seen may_leave stored tape → took text → AreAcknowledged may_leave start rows tape.device took
+  disk_acknowledged rows start stored text tape took answers disk told = record {
+    kept = rows;
+    held = [];
+    all = sym (append-nil rows);
+    text = text;
+    stored = stored;
+    on_disk = answers;
+    told = told;
+    answers = [];
+    leaves = λ c may.
+        let same = all_only seen may_leave tape disk.open_tape disk.synced c may in (
+          subst HasFence (sym same) (open_fence seen may_leave tape disk.open_tape),
+          record { count = 0; within = omega arith; after = stored; run = refl; rows = ap book_of same ∙ disk.rows },
+        );
+  }
 
   -- a sync that ended well leaves the rows of the register on the disk
   pub synced_disk : (before after : Journaled D) (done : Result (Unit {0}) JournalFault) → done ≡ Ok tt → IsReady seen may_leave before
@@ -301,7 +335,7 @@ module _ {D : Type 0} (seen : D → List ℕ) (may_leave : D → List ℕ → Ty
   -- the line of records that are on the disk is handed on
   pub synced_handed : (rows : List (List (List ℕ))) (start : Store) (first : D) (now : Journaled D) (old mid new : Outgoing) (stalled : Bool) (r : Result (Unit {0}) Stalled)
       → AreSynced seen may_leave moment left_since rows start first now old mid → Adds [] mid new stalled r
-      → MatchResult r (λ done. AreSynced seen may_leave moment left_since rows start first now old new) (λ why. AreCutOff moment left_since rows start first now.journal.tape.device old new (has_stopped stalled now.journal.fault))
+      → MatchResult r (λ done. AreSynced seen may_leave moment left_since rows start first now old new) (λ why. AreCutOff may_leave moment left_since rows start first now.journal.tape.device old new (has_stopped stalled now.journal.fault))
   synced_handed rows start first now old mid new stalled (Ok done) was put = record {
     text = was.text;
     on_disk = was.on_disk;
@@ -316,6 +350,8 @@ module _ {D : Type 0} (seen : D → List ℕ) (may_leave : D → List ℕ → Ty
     front = rw (append-nil was.text) at (adds_front_after was.text [] old mid new was.grew put.0);
     told = rw put.1 refl;
     leaves = was.leaves;
+    acknowledged = disk_acknowledged rows start (store_in now.register) was.text now.journal.tape (λ told. AddsFront told old new) was.on_disk was.under_way.disk
+        (rw (append-nil was.text) at (adds_front_after was.text [] old mid new was.grew put.0));
   }
 
   -- records that are on the disk are kept
@@ -382,11 +418,13 @@ module _ {D : Type 0} (seen : D → List ℕ) (may_leave : D → List ℕ → Ty
         front = rw (append-nil more.text) (adds_front_after was.text more.text old mid new was.grew more.put.0);
         told = rw more.put.1 refl;
         leaves = all.1;
+        acknowledged = disk_acknowledged (rows ++ fields ∷ []) start (store_in now.register) (was.text ++ (more.text ++ [])) now.journal.tape (λ told. AddsFront told old new) all.0 was.under_way.disk
+            (rw (append-nil more.text) (adds_front_after was.text more.text old mid new was.grew more.put.0));
       }))
 
   -- a record is answered, and then the line is handed on
   pub handed_kept : (rows : List (List (List ℕ))) (fields : List (List ℕ)) (start : Store) (first : D) (now : Journaled D) (old new : Outgoing) (stopped : Bool) (done : Result (Unit {0}) Stalled) (r : Result (Unit {0}) Fault)
-      → MatchResult done (λ unit. AreSynced seen may_leave moment left_since (rows ++ fields ∷ []) start first now old new) (λ why. AreCutOff moment left_since (rows ++ fields ∷ []) start first now.journal.tape.device old new stopped)
+      → MatchResult done (λ unit. AreSynced seen may_leave moment left_since (rows ++ fields ∷ []) start first now old new) (λ why. AreCutOff may_leave moment left_since (rows ++ fields ∷ []) start first now.journal.tape.device old new stopped)
       → MatchResult done (λ unit. r ≡ Ok unit) (λ why. r ≡ Err fault.Write)
       → HasKept seen may_leave moment left_since rows fields start first now old new stopped r
   handed_kept rows fields start first now old new stopped (Ok done) r was is = rw is (synced_kept (rows ++ fields ∷ []) start first now old new was)
@@ -641,62 +679,95 @@ read_less : (stops others : List (List (List ℕ)) → Fault → Type 0) (bytes 
 read_less stops others bytes rows (Ok done) less read = read
 read_less stops others bytes rows (Err why) less read = (read.0, read.1, read.2, λ other. less why (read.3 other))
 
-module _ {D : Type 0} (moment : D → ℕ) (left_since : D → ℕ → List ℕ → Type 0) (stops : List ℕ → List (List (List ℕ)) → Fault → Type 0) (known : Option (List ℕ)) (start : Store) (first last : D) where
+module _ {D : Type 0} (may_leave : D → List ℕ → Type 0) (moment : D → ℕ) (left_since : D → ℕ → List ℕ → Type 0) (stops : List ℕ → List (List (List ℕ)) → Fault → Type 0) (known : Option (List ℕ)) (start : Store) (first last : D) where
   -- the sink or the journal failed
   pub ran_cut : (rows : List (List (List ℕ))) (old new : Outgoing) (stopped : Bool) (r : Result (Unit {0}) Fault) → old.line ≡ [] → length rows ≤ RECORDS
-      → IfSome known (λ bytes. AreReadBy (stops bytes) bytes rows r) → AreCutOff moment left_since rows start first last old new stopped
-      → RanJournaled moment left_since stops known start first last old.taken new.taken (Err fault.Write)
+      → IfSome known (λ bytes. AreReadBy (stops bytes) bytes rows r) → AreCutOff may_leave moment left_since rows start first last old new stopped
+      → RanJournaled may_leave moment left_since stops known start first last old.taken new.taken (Err fault.Write)
   ran_cut rows old new stopped r none few read cut = record {
     done = answered_records start rows cut.text cut.end few cut.answers;
     read = if_some known _ _ (λ bytes was. read_cut (stops bytes) (stops bytes) bytes rows r was) read;
     wrote = adds_begun cut.text old new none cut.front;
     leaves = cut.leaves;
+    acknowledged =
+        let was = cut.acknowledged in
+        record {
+          kept = was.kept;
+          held = was.held;
+          all = was.all;
+          text = was.text;
+          stored = was.stored;
+          on_disk = was.on_disk;
+          told = adds_begun was.text old new none was.told;
+          answers = was.answers;
+          leaves = was.leaves;
+        };
   }
 
   -- or all is handed on
-  pub ran_synced : (seen : D → List ℕ) (may_leave : D → List ℕ → Type 0) (rows : List (List (List ℕ))) (now : Journaled D) (old new : Outgoing) (r : Result (Unit {0}) Fault) → now.journal.tape.device ≡ last
+  pub ran_synced : (seen : D → List ℕ) (rows : List (List (List ℕ))) (now : Journaled D) (old new : Outgoing) (r : Result (Unit {0}) Fault) → now.journal.tape.device ≡ last
       → old.line ≡ [] → new.line ≡ [] → (r ≡ Err fault.Write → ⊥) → length rows ≤ RECORDS
       → IfSome known (λ bytes. AreReadBy (stops bytes) bytes rows r) → AreSynced seen may_leave moment left_since rows start first now old new
-      → RanJournaled moment left_since stops known start first last old.taken new.taken r
-  ran_synced seen may_leave rows now old new r here none empty unless few read all = record {
+      → RanJournaled may_leave moment left_since stops known start first last old.taken new.taken r
+  ran_synced seen rows now old new r here none empty unless few read all = record {
     done = answered_records start rows all.text (store_in now.register) few all.on_disk;
     read = read;
     wrote = wrote_whole all.text old.taken new.taken r unless (adds_all all.text old new none empty all.grew);
     leaves = subst (λ (d : D). LeavesOnly moment left_since first d (StandsFor start (orders_of rows) (answers_in rows start all.text (store_in now.register) all.on_disk))) here all.leaves;
+    acknowledged = subst (λ (d : D). AreAcknowledged may_leave start rows d (AppendsFront old.taken new.taken)) here
+        (disk_acknowledged seen may_leave moment left_since rows start (store_in now.register) all.text now.journal.tape (AppendsFront old.taken new.taken) all.on_disk all.under_way.disk
+        (wrote_some all.text old.taken new.taken (adds_all all.text old new none empty all.grew)));
+  }
+
+  -- what was taken stays so
+  stays_acknowledged : (rows : List (List (List ℕ))) (old mid new : Option (List ℕ)) → AreAcknowledged may_leave start rows last (AppendsFront old mid) → Keeps mid new
+      → AreAcknowledged may_leave start rows last (AppendsFront old new)
+  stays_acknowledged rows old mid new was kept = record {
+    kept = was.kept;
+    held = was.held;
+    all = was.all;
+    text = was.text;
+    stored = was.stored;
+    on_disk = was.on_disk;
+    told = front_stays was.text old mid new was.told kept;
+    answers = was.answers;
+    leaves = was.leaves;
   }
 
   -- the run ends with a flush
   pub ran_ended : (others : List ℕ → List (List (List ℕ)) → Fault → Type 0) → ((bytes : List ℕ) (rows : List (List (List ℕ))) (why : Fault) → stops bytes rows why → others bytes rows why)
-      → (old mid new : Option (List ℕ)) (done r : Result (Unit {0}) Fault) → RanJournaled moment left_since stops known start first last old mid done → Keeps mid new
-      → (r ≡ done) ⊎ (r ≡ Err fault.Write) → RanJournaled moment left_since others known start first last old new r
+      → (old mid new : Option (List ℕ)) (done r : Result (Unit {0}) Fault) → RanJournaled may_leave moment left_since stops known start first last old mid done → Keeps mid new
+      → (r ≡ done) ⊎ (r ≡ Err fault.Write) → RanJournaled may_leave moment left_since others known start first last old new r
   ran_ended others less old mid new done r ran kept (inl same) = rw same (record {
     done = ran.done;
     read = if_some known _ _ (λ bytes read. read_less (stops bytes) (others bytes) bytes ran.done.rows done (less bytes ran.done.rows) read) ran.read;
     wrote = wrote_stays ran.done.text old mid new done ran.wrote kept;
     leaves = ran.leaves;
+    acknowledged = stays_acknowledged ran.done.rows old mid new ran.acknowledged kept;
   })
   ran_ended others less old mid new done r ran kept (inr failed) = rw failed (record {
     done = ran.done;
     read = if_some known _ _ (λ bytes read. read_cut (stops bytes) (others bytes) bytes ran.done.rows done read) ran.read;
     wrote = front_stays ran.done.text old mid new (wrote_front ran.done.text old mid done ran.wrote) kept;
     leaves = ran.leaves;
+    acknowledged = stays_acknowledged ran.done.rows old mid new ran.acknowledged kept;
   })
 
 -- nothing is read
 pub ran_none : {D : Type 0} (seen : D → List ℕ) (may_leave : D → List ℕ → Type 0) (moment : D → ℕ) (left_since : D → ℕ → List ℕ → Type 0)
     (only_now : (d : D) (c : List ℕ) → left_since d (moment d) c → may_leave d c) (now : Journaled D) (known : Option (List ℕ)) (old : Option (List ℕ)) → IsUnderWay seen may_leave (store_in now.register) [] [] now
-    → RanJournaled moment left_since IsStop known (store_in now.register) now.journal.tape.device now.journal.tape.device old old (Err fault.Memory)
+    → RanJournaled may_leave moment left_since IsStop known (store_in now.register) now.journal.tape.device now.journal.tape.device old old (Err fault.Memory)
 unfolding Reached
 ran_none seen may_leave moment left_since only_now now known old under =
-    ran_synced moment left_since IsStop known (store_in now.register) now.journal.tape.device now.journal.tape.device seen may_leave [] now (outgoing [] old) (outgoing [] old) (Err fault.Memory) refl refl refl (λ is. cc) (omega arith)
+    ran_synced may_leave moment left_since IsStop known (store_in now.register) now.journal.tape.device now.journal.tape.device seen [] now (outgoing [] old) (outgoing [] old) (Err fault.Memory) refl refl refl (λ is. cc) (omega arith)
     (if_known known _ (λ bytes is. (st.StartRecord, bytes, (refl, refl), λ other. tt)))
     (synced_begun seen may_leave moment left_since only_now now under (outgoing [] old))
 
 -- a run over a source is one over the bytes of its reader
-pub ran_journaled : {D T : Type 0} (moment : D → ℕ) (left_since : D → ℕ → List ℕ → Type 0) (source : Seen T) (now : T) (known given : Option (List ℕ)) (start : Store) (first last : D)
+pub ran_journaled : {D T : Type 0} (may_leave : D → List ℕ → Type 0) (moment : D → ℕ) (left_since : D → ℕ → List ℕ → Type 0) (source : Seen T) (now : T) (known given : Option (List ℕ)) (start : Store) (first last : D)
     (old mid new : Option (List ℕ)) (done r : Result (Unit {0}) Fault) → given ≡ known
-    → RanJournaled moment left_since (λ bytes. StopsBehind source true bytes now) given start first last old mid done → Keeps mid new
-    → (r ≡ done) ⊎ (r ≡ Err fault.Write) → RanJournaled moment left_since IsStop known start first last old new r
-ran_journaled moment left_since source now known given start first last old mid new done r is ran kept ended =
-    ran_ended moment left_since (λ bytes. StopsBehind source true bytes now) known start first last IsStop (λ bytes rows why. is_stop source true bytes now rows why) old mid new done r
-    (subst (λ (o : Option (List ℕ)). RanJournaled moment left_since (λ bytes. StopsBehind source true bytes now) o start first last old mid done) is ran) kept ended
+    → RanJournaled may_leave moment left_since (λ bytes. StopsBehind source true bytes now) given start first last old mid done → Keeps mid new
+    → (r ≡ done) ⊎ (r ≡ Err fault.Write) → RanJournaled may_leave moment left_since IsStop known start first last old new r
+ran_journaled may_leave moment left_since source now known given start first last old mid new done r is ran kept ended =
+    ran_ended may_leave moment left_since (λ bytes. StopsBehind source true bytes now) known start first last IsStop (λ bytes rows why. is_stop source true bytes now rows why) old mid new done r
+    (subst (λ (o : Option (List ℕ)). RanJournaled may_leave moment left_since (λ bytes. StopsBehind source true bytes now) o start first last old mid done) is ran) kept ended

@@ -10,7 +10,7 @@ use Rattle.hlr_core.specs.declared.order.Order.{Order}
 use Rattle.hlr_kept.specs.UnderWay.{IsUnderWay}
 use Rattle.hlr_kept.specs.declared.journaled.Journaled.{Journaled}
 use Rattle.hlr.specs.Command.{Command}
-use Rattle.hlr.specs.Journaled.{AreReadBy, StandsFor}
+use Rattle.hlr.specs.Journaled.{AreAcknowledged, AreReadBy, StandsFor}
 use Rattle.hlr.specs.Orders.{answer_in, answers_in, order_of, orders_of}
 use Rattle.hlr.specs.Outgoing.{AddsFront, AddsWhole, Outgoing, outgoing}
 use Rattle.hlr.specs.Run.{AsksEvent}
@@ -69,8 +69,9 @@ pub record AreSynced {D : Type 0} (seen : D → List ℕ) (may_leave : D → Lis
   pub leaves : LeavesOnly moment left_since first now.journal.tape.device
       (StandsFor start (orders_of rows) (answers_in rows start text (store_in now.register) on_disk))
 
--- records from a store on are answered, of whose text the sink took a front, and then it or the journal failed
-pub record AreCutOff {D : Type 0} (moment : D → ℕ) (left_since : D → ℕ → List ℕ → Type 0) (rows : List (List (List ℕ)))
+-- records from a store on are answered, of whose text the sink took a front, and then it or the journal failed; no crash
+-- takes back what the sink was told
+pub record AreCutOff {D : Type 0} (may_leave : D → List ℕ → Type 0) (moment : D → ℕ) (left_since : D → ℕ → List ℕ → Type 0) (rows : List (List (List ℕ)))
     (start : Store) (first last : D) (old new : Outgoing) (stopped : Bool) : Type 0 where
   pub text : List ℕ
   pub end : Store
@@ -79,6 +80,7 @@ pub record AreCutOff {D : Type 0} (moment : D → ℕ) (left_since : D → ℕ �
   pub told : stopped ≡ true
   pub leaves : LeavesOnly moment left_since first last
       (StandsFor start (orders_of rows) (answers_in rows start text end answers))
+  pub acknowledged : AreAcknowledged may_leave start rows last (λ told. AddsFront told old new)
 
 -- whatever records are kept, all of them are on the disk then, or the sink or the journal failed
 abbrev pub Syncs : {D : Type 0} (seen : D → List ℕ) (may_leave : D → List ℕ → Type 0) (moment : D → ℕ)
@@ -88,7 +90,7 @@ Syncs {D} seen may_leave moment left_since before after taken new stopped r =
     (rows : List (List (List ℕ))) (start : Store) (first : D) (old : Outgoing)
     → AreKept seen may_leave moment left_since rows start first before old taken
     → MatchResult r (λ done. AreSynced seen may_leave moment left_since rows start first after old new)
-    (λ why. AreCutOff moment left_since rows start first after.journal.tape.device old new stopped)
+    (λ why. AreCutOff may_leave moment left_since rows start first after.journal.tape.device old new stopped)
 
 -- behind records, one more is answered; the journal is as it was where there is no memory for the event that it asks for
 abbrev pub HasKept : {D : Type 0} (seen : D → List ℕ) (may_leave : D → List ℕ → Type 0) (moment : D → ℕ)
@@ -99,8 +101,8 @@ HasKept seen may_leave moment left_since rows fields start first now old new sto
 HasKept seen may_leave moment left_since rows fields start first now old new stopped (Err fault.Memory) =
     AreKept seen may_leave moment left_since rows start first now old new × AsksEvent fields
 HasKept seen may_leave moment left_since rows fields start first now old new stopped (Err fault.Write) =
-    AreCutOff moment left_since rows start first now.journal.tape.device old new stopped
-    ⊎ AreCutOff moment left_since (rows ++ fields ∷ []) start first now.journal.tape.device old new stopped
+    AreCutOff may_leave moment left_since rows start first now.journal.tape.device old new stopped
+    ⊎ AreCutOff may_leave moment left_since (rows ++ fields ∷ []) start first now.journal.tape.device old new stopped
 HasKept seen may_leave moment left_since rows fields start first now old new stopped (Err _) = ⊥
 
 -- whatever records are kept, one more is answered behind them
@@ -117,7 +119,7 @@ abbrev pub HasHeld : {D : Type 0} (seen : D → List ℕ) (may_leave : D → Lis
     (left_since : D → ℕ → List ℕ → Type 0) → List (List (List ℕ)) → Store → D → Journaled D → Outgoing → Outgoing → Bool
     → Result (Unit {0}) Fault → Type 0
 HasHeld seen may_leave moment left_since rows start first now old new stopped (Err fault.Write) =
-    AreCutOff moment left_since rows start first now.journal.tape.device old new stopped
+    AreCutOff may_leave moment left_since rows start first now.journal.tape.device old new stopped
 HasHeld seen may_leave moment left_since rows start first now old new stopped _ =
     AreKept seen may_leave moment left_since rows start first now old new
 

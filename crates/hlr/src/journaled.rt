@@ -268,7 +268,7 @@ fn answer_all<T: Source, D: NextTape, S: Sink>(
     requires ready { IsReady D.Device.seen D.Device.may_leave journaled.old }
     requires settled { IsUnderWay D.Device.seen D.Device.may_leave (store_in journaled.old.register) [] [] journaled.old }
     ensures ready { IsReady D.Device.seen D.Device.may_leave journaled.new }
-    ensures text { RanJournaled D.Device.moment D.Device.left_since (λ bytes. StopsBehind T.seen true bytes source.new) (T.seen.unread source.old).bytes (store_in journaled.old.register) journaled.old.journal.tape.device journaled.new.journal.tape.device (S.taken sink.old) (S.taken sink.new) result }
+    ensures text { RanJournaled D.Device.may_leave D.Device.moment D.Device.left_since (λ bytes. StopsBehind T.seen true bytes source.new) (T.seen.unread source.old).bytes (store_in journaled.old.register) journaled.old.journal.tape.device journaled.new.journal.tape.device (S.taken sink.old) (S.taken sink.new) result }
     ensures kept { result ≢ Err fault.Write → IsOnDisk D.Device.seen D.Device.may_leave (store_in journaled.new.register) journaled.new.journal.tape }
     ensures write { result ≡ Err fault.Write → has_stopped (S.has_stalled sink.new) journaled.new.journal.fault ≡ true }
     ensures field { result ≢ Err fault.Field }
@@ -304,7 +304,7 @@ pub fn run_journaled<R: Read + Drop, D: NextTape, S: Sink>(
     requires settled { IsUnderWay D.Device.seen D.Device.may_leave (store_in journaled.old.register) [] [] journaled.old }
     ensures ready { IsReady D.Device.seen D.Device.may_leave journaled.new }
     // Records are answered from the rows of the journal on. A crash at any moment leaves the rows after the first so many.
-    ensures text { RanJournaled D.Device.moment D.Device.left_since IsStop (option_map strip_bom (R.remaining reader)) (store_in journaled.old.register) journaled.old.journal.tape.device journaled.new.journal.tape.device (S.taken sink.old) (S.taken sink.new) result }
+    ensures text { RanJournaled D.Device.may_leave D.Device.moment D.Device.left_since IsStop (option_map strip_bom (R.remaining reader)) (store_in journaled.old.register) journaled.old.journal.tape.device journaled.new.journal.tape.device (S.taken sink.old) (S.taken sink.new) result }
     // All rows of the register are on the disk then.
     ensures kept { result ≢ Err fault.Write → IsOnDisk D.Device.seen D.Device.may_leave (store_in journaled.new.register) journaled.new.journal.tape }
     ensures write { result ≡ Err fault.Write → has_stopped (S.has_stalled sink.new) journaled.new.journal.fault ≡ true }

@@ -3,9 +3,13 @@
 //! are lost when the program ends, unless a journal keeps them.
 #![tactic(auto)]
 
-ghost use Rattle.std.specs.Prelude.{◌≡◌, [], IfOk};
+ghost use Rattle.std.specs.Prelude.{◌≡◌, ◌⊎◌, [], IfErr, IfOk, Some};
+ghost use Rattle.journal_file.specs.Device.{LeavesOnly};
+ghost use Rattle.journal_file.specs.declared.fault.JournalFault.TheVariants.{Failed, NoJournal};
+ghost use Rattle.journal.specs.Lines.{HasFence};
+ghost use Rattle.hlr_kept.specs.Rows.{IsNotOpened, book_of};
 ghost use Rattle.hlr_kept.specs.UnderWay.{IsReady, IsUnderWay};
-ghost use Rattle.hlr_owners.specs.Owners.{store_in};
+ghost use Rattle.hlr_owners.specs.Owners.{book_in, store_in};
 
 mod answers;
 mod edits;
@@ -140,6 +144,12 @@ fn open_journaled<U: Unread + Drop>(
     requires unread { U.read unread ≡ [] }
     ensures ready { IfOk result (λ now. IsReady U.File.seen U.File.may_leave now) }
     ensures settled { IfOk result (λ now. IsUnderWay U.File.seen U.File.may_leave (store_in now.register) [] [] now) }
+    // The rows are those of the bytes that were read to the end of the file, and a crash at any moment since then leaves a
+    // file with the same rows.
+    ensures rows { IfOk result (λ now. (last : U) × U.IsRead last × (book_of (U.read last) ≡ Some (book_in now.register.owners))
+        × LeavesOnly U.File.moment U.File.left_since (U.file last) now.journal.tape.device (λ c. HasFence c × (book_of c ≡ book_of (U.read last)))) }
+    // If the disk works and memory is there, only a file that isn't a journal is refused.
+    ensures refused { IfErr result (λ why. (why ≡ Failed) ⊎ ((last : U) × IsNotOpened (U.read last) why × (why ≡ NoJournal → U.IsRead last))) }
 {
     match Register::open(alloc, options.parts, options.width) {
         Ok(register) => hlr_kept::open(alloc, register, unread),

@@ -8,7 +8,7 @@ pub returns-in-Err-Write-clause-text : goal.returns-in-Err-Write-clause-text
 returns-in-Err-Write-clause-text g c =
     let is : c.answer_records-done.result ≡ Err fault.Write = search rules in
     let come = c.answer_records-done.ensures.text in
-    ran_cut g.D.Device.moment g.D.Device.left_since _ _ _ _ _ come.rows (outgoing c.empty_line-line.result.items (g.S.Sink.taken c.args.sink.now))
+    ran_cut g.D.Device.may_leave g.D.Device.moment g.D.Device.left_since _ _ _ _ _ come.rows (outgoing c.empty_line-line.result.items (g.S.Sink.taken c.args.sink.now))
     (outgoing c.answer_records-done.new.line.items (g.S.Sink.taken c.answer_records-done.new.sink)) _ c.answer_records-done.result c.empty_line-line.ensures come.few come.read (rw is at come.holds)
 
 pub returns-in-Ok-clause-text : goal.returns-in-Ok-clause-text
@@ -19,7 +19,7 @@ returns-in-Ok-clause-text g c =
     ] in
     let come = c.answer_records-done.ensures.text in
     let kept = kept_so g.D.Device.seen g.D.Device.may_leave g.D.Device.moment g.D.Device.left_since come.rows _ _ _ _ _ _ c.answer_records-done.result unless come.holds in
-    ran_synced g.D.Device.moment g.D.Device.left_since _ _ _ _ _ g.D.Device.seen g.D.Device.may_leave come.rows c.hand_on_synced.new.journaled (outgoing c.empty_line-line.result.items (g.S.Sink.taken c.args.sink.now))
+    ran_synced g.D.Device.may_leave g.D.Device.moment g.D.Device.left_since _ _ _ _ _ g.D.Device.seen come.rows c.hand_on_synced.new.journaled (outgoing c.empty_line-line.result.items (g.S.Sink.taken c.args.sink.now))
     (outgoing c.hand_on_synced.new.line.items (g.S.Sink.taken c.hand_on_synced.new.sink)) c.answer_records-done.result refl c.empty_line-line.ensures c.in-Ok.ensures.empty unless come.few come.read
     (c.in-Ok.ensures.text come.rows _ _ _ kept)
 
@@ -31,6 +31,6 @@ returns-in-Err-clause-text g c =
     ] in
     let come = c.answer_records-done.ensures.text in
     let kept = kept_so g.D.Device.seen g.D.Device.may_leave g.D.Device.moment g.D.Device.left_since come.rows _ _ _ _ _ _ c.answer_records-done.result unless come.holds in
-    ran_cut g.D.Device.moment g.D.Device.left_since _ _ _ _ _ come.rows (outgoing c.empty_line-line.result.items (g.S.Sink.taken c.args.sink.now))
+    ran_cut g.D.Device.may_leave g.D.Device.moment g.D.Device.left_since _ _ _ _ _ come.rows (outgoing c.empty_line-line.result.items (g.S.Sink.taken c.args.sink.now))
     (outgoing c.hand_on_synced.new.line.items (g.S.Sink.taken c.hand_on_synced.new.sink)) _ c.answer_records-done.result c.empty_line-line.ensures come.few come.read
     (c.in-Err.ensures.text come.rows _ _ _ kept)
