@@ -243,12 +243,13 @@ static uint8_t open_folder(hlr_file *file, char *path) {
 /* Opens and locks the file that has the name by then. */
 static uint8_t open_locked(hlr_file *file) {
     struct stat opened, named;
+    if (fstatat(file->folder, file->name, &named, 0) != 0) return fault();
+    if (!S_ISREG(named.st_mode)) return HLR_BAD_JOURNAL;
     file->journal = openat(file->folder, file->name, O_RDWR | O_CLOEXEC);
     if (file->journal < 0) return fault();
     uint8_t code = lock_file(file->journal);
     if (code != HLR_DONE) return code;
     if (fstat(file->journal, &opened) != 0 || fstatat(file->folder, file->name, &named, 0) != 0) return fault();
-    if (!S_ISREG(opened.st_mode)) return HLR_BAD_JOURNAL;
     if (opened.st_dev != named.st_dev || opened.st_ino != named.st_ino) return HLR_LOCKED;
     return HLR_DONE;
 }

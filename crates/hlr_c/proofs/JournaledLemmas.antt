@@ -1,11 +1,12 @@
 -- What a call makes of a register that a journal keeps.
-use Rattle.std.specs.Prelude.{ℤ, IfOk, IfSome, slice_get, zero}
+use Rattle.std.specs.Prelude.{ℤ, ◌⊎◌, ◌<◌, ◌≤◌, ◌+◌, ◌^◌, IfErr, IfOk, IfSome, IsErrOf, length, replicate, slice_get, zero}
 use Rattle.std.proofs.lemmas.List.{append-nil}
-use Rattle.hlr_c.proofs.Common.{◌≡◌, ◌≢◌, ◌∙◌, ap, refl, sym, subst, ℕ, suc, Bool, true, false, List, [], ◌∷◌, ◌++◌, inl, inr, Ok, Err, Option, None, Some, Result, by_test, Refusal, Book, AllHome, OwnersState, HoldingState, Event, Reply, Give, IsAnswer, FileJournal, IsJournaled, StandsAs, asks, code_told}
+use Rattle.hlr_c.proofs.Common.{◌≡◌, ◌≢◌, ◌∙◌, arith, ap, refl, sym, subst, ℕ, suc, Bool, true, false, List, [], ◌∷◌, ◌++◌, inl, inr, Ok, Err, Option, None, Some, Result, by_test, Refusal, Book, AllHome, OwnersState, HoldingState, Event, Reply, Give, IsAnswer, FileJournal, IsJournaled, StandsAs, asks, code_told}
 use Rattle.part_table.specs.Recut.{recut_answer}
 use Rattle.part_table.specs.declared.region.Side.{Side}
 use Rattle.journal_file.specs.Device.{LeavesOnly}
-use Rattle.journal_file.specs.Relayed.{relayed_leaves, relayed_left_since, relayed_moment, relayed_seen}
+use Rattle.journal_file.specs.Owner.{owner_of_held}
+use Rattle.journal_file.specs.Relayed.{relayed_leaves, relayed_left_since, relayed_moment, relayed_owner, relayed_seen}
 use Rattle.journal_file.specs.declared.record.Step.TheVariants.{Held}
 use Rattle.journal_file.specs.declared.relayed.Relayed.{Relayed}
 use Rattle.journal_file.specs.declared.fault.JournalFault.{JournalFault}
@@ -27,13 +28,13 @@ use Rattle.hlr_kept.proofs.JournalLemmas.{same_stands, settled_rows}
 use Rattle.hlr_kept.specs.Keeping.{IsHanded, IsLike, IsPut, IsSame, IsSettled, StandsAfterFirst, StandsFor}
 use Rattle.hlr_kept.specs.declared.keeping.Journal.{Journal}
 use Rattle.journal.specs.declared.tape.Tape.{Tape}
-use Rattle.journal_file.specs.Calls.{seen_after}
+use Rattle.journal_file.specs.Calls.{faults_in, seen_after}
 use Rattle.hlr_kept.specs.Rows.{book_of}
 use Rattle.hlr_kept.specs.Runs.{tells_done}
 use Rattle.hlr_c.proofs.EditedLemmas.{told_written}
 use Rattle.hlr_c.specs.Call.{IsCall, IsRecutAnswer}
 use Rattle.hlr_c.specs.Inside.{changes_rows}
-use Rattle.hlr_c.specs.Journaled.{IsAdded, IsAllMade, IsComeBack, IsEnding, IsKeptAnswer, IsMade, IsSafe, IsSnapshotOf, IsSynced, Open, by_before, current_of, fallen_back, fault_code, line_written, opened_in}
+use Rattle.hlr_c.specs.Journaled.{IsAdded, IsAllMade, IsComeBack, IsEnding, IsKeptAnswer, IsMade, IsNotSynced, IsSafe, IsSnapshotOf, IsSynced, Open, by_before, current_of, fallen_back, fault_code, line_written, opened_in}
 use Rattle.hlr_c.specs.Opened.{IsComing}
 use Rattle.hlr_c.specs.Reports.{IsLook}
 use Rattle.hlr_c.specs.declared.codes.TheConstants.{AWAY, DONE, FAILED}
@@ -167,7 +168,7 @@ pub like_journaled : (register : OwnersState) (was : FileJournal) (now : Journal
 like_journaled register was now same stands is = (
   is.0,
   stands (book_in register.owners) is.1,
-  before_stands was.current.tape.device now.tape.device was.before (ap seen_after same.calls) is.2,
+  before_stands was.current.tape.device now.tape.device was.before (ap seen_after same.same.calls) is.2,
 )
 
 -- a change behind the making of room
@@ -218,7 +219,8 @@ LeavesSome was now =
     LeavesOnly relayed_moment relayed_left_since was.current.tape.device now.current.tape.device (λ file. HasFence file × StandsAfterFirst relayed_seen was.current file)
 
 module _ (register : OwnersState) (was now : FileJournal) (made : Result (Unit {0}) JournalFault) (moment : was.current.fault ≡ None → LeavesSome was now)
-    (stays : IfSome was.current.fault (λ why. (made ≡ Err why) × (now.current ≡ was.current))) where
+    (stays : IfSome was.current.fault (λ why. (made ≡ Err why) × (now.current ≡ was.current)))
+    (owner : relayed_owner now.current.tape.device ≡ relayed_owner was.current.tape.device) (old : now.before ≡ None) where
   -- a sync that was done
   pub synced_done : (done : Unit {0}) → made ≡ Ok done → IsSettled now.current → StandsFor relayed_seen relayed_leaves (book_in register.owners) now.current → IsSynced register was DONE now
   synced_done done is settled stands = record {
@@ -226,19 +228,43 @@ module _ (register : OwnersState) (was now : FileJournal) (made : Result (Unit {
     failed = λ other. absurd (other refl);
     stays = λ why was_broken. absurd (let clash : Ok done ≡ Err why = sym is ∙ (of_fault (λ why. (made ≡ Err why) × (now.current ≡ was.current)) was.current.fault why stays was_broken).0 in cc);
     any_moment = moment;
+    owner = owner;
+    old = old;
   }
 
   -- one that has failed
-  pub synced_failed : (why : JournalFault) (code : ℕ) → made ≡ Err why → code ≡ fault_code why → now.current.fault ≡ Some why → IsSynced register was code now
-  synced_failed why code is coded broken = record {
+  pub synced_failed : (why : JournalFault) (code : ℕ) → made ≡ Err why → code ≡ fault_code why → now.current.fault ≡ Some why → (was.current.fault ≡ None → IsNotSynced was why)
+      → IsSynced register was code now
+  synced_failed why code is coded broken reason = record {
     done = λ told. absurd (fault_some why (sym coded ∙ told));
-    failed = λ other. (why, coded, broken);
+    failed = λ other. (why, coded, broken, reason);
     stays = λ other was_broken.
         let both = of_fault (λ why. (made ≡ Err why) × (now.current ≡ was.current)) was.current.fault other stays was_broken in
         let same : why ≡ other = (let one : Err why ≡ Err other = sym is ∙ both.0 in cc) in
         (coded ∙ ap fault_code same, both.1);
     any_moment = moment;
+    owner = owner;
+    old = old;
   }
+
+-- what is so of each error
+pub if_err : {T E : Type 0} (result : Result T E) (Q : E → Type 0) → ((why : E) → result ≡ Err why → Q why) → IfErr result Q
+if_err (Ok done) Q each = tt
+if_err (Err why) Q each = each why refl
+
+-- a sync through the owner of a file gives up for want of memory, or of room, and never because the disk fails
+pub not_synced : (was now : FileJournal) (made : Result (Unit {0}) JournalFault)
+    → (IsErrOf made fault.Failed → faults_in was.current.tape.device.log.calls < faults_in now.current.tape.device.log.calls)
+    → (IsErrOf made fault.Full → 2 ^ 61 ≤ was.current.tape.len + length was.current.group.items)
+    → (IsErrOf made fault.NoJournal → ⊥) × (IsErrOf made fault.BadLine → ⊥) × (IsErrOf made fault.Locked → ⊥)
+    → (why : JournalFault) → made ≡ Err why → IsNotSynced was why
+not_synced was now made failed full others fault.Memory is = inl refl
+not_synced was now made failed full others fault.Failed is =
+    absurd (omega (arith, failed is, was.current.tape.device.no_fault, now.current.tape.device.no_fault))
+not_synced was now made failed full others fault.Full is = inr (refl, full is)
+not_synced was now made failed full others fault.Locked is = absurd (others.2 is)
+not_synced was now made failed full others fault.NoJournal is = absurd (others.0 is)
+not_synced was now made failed full others fault.BadLine is = absurd (others.1 is)
 
 -- a snapshot of a register, with the journal of before
 pub snapshot_journaled : (register : OwnersState) (before : Option FileJournal) (current : Journal Relayed) → AllHome register.owners → IsJournaled register before → IsSettled current
@@ -253,11 +279,11 @@ snapshot_journaled register (Some old) current home is settled stands =
 
 -- and it is a snapshot of the register
 pub snapshot_of : (fd : ℤ) (register : OwnersState) (before : Option FileJournal) (current : Journal Relayed) (journal : FileJournal)
-    → journal ≡ record { current = current; before = current_of before } → current.tape.device.fd ≡ fd → IsSettled current
+    → journal ≡ record { current = current; before = current_of before } → relayed_owner current.tape.device ≡ owner_of_held fd (replicate 65536 0) → IsSettled current
     → StandsFor relayed_seen relayed_leaves (book_in register.owners) current → IsSnapshotOf fd register before journal
-snapshot_of fd register before current journal same lies settled stands =
+snapshot_of fd register before current journal same owner settled stands =
     let whole : FileJournal = record { current = current; before = current_of before } in
-    rw same (record { file = lies; safe = settled_safe register whole settled stands; old = refl })
+    rw same (record { owner = owner; safe = settled_safe register whole settled stands; old = refl })
 
 -- a register whose journal is again that of before, or has failed
 pub fallen_journaled : (register : OwnersState) (journal : FileJournal) → journal.current.fault ≡ None → IsJournaled register (Some journal) → IsJournaled register (Some (fallen_back journal))
@@ -308,16 +334,17 @@ pub come_back : (fd : ℤ) (bytes : List ℕ) (before after lender : OwnersState
     → opened ≡ record { lender = lender; journal = Some (record { current = journal; before = None }) } → lender ≡ after
     → (book_of bytes ≡ Some (book_in after.owners)) × (first : Relayed) × (first.log.calls ≡ (Held, bytes) ∷ [])
     × LeavesOnly relayed_moment relayed_left_since first journal.tape.device (λ left. HasFence left × (book_of left ≡ book_of bytes))
-    → journal.tape.device.fd ≡ fd → store_in after ≡ record (store_in before) { book = book_in after.owners } → AllHome after.owners
+    → relayed_owner journal.tape.device ≡ owner_of_held fd bytes → store_in after ≡ record (store_in before) { book = book_in after.owners } → AllHome after.owners
     → IsSettled journal → StandsFor relayed_seen relayed_leaves (book_in after.owners) journal
     → (one : FileJournal) × (opened.journal ≡ Some one) × IsComeBack fd bytes (store_in before) opened.lender one
-come_back fd bytes before after lender journal opened is same read lies stays home settled stands =
+come_back fd bytes before after lender journal opened is same read owner stays home settled stands =
     let whole : FileJournal = record { current = journal; before = None } in
     rw (is, same) (
       whole,
       refl,
       record {
-        file = lies;
+        owner = owner;
+        old = refl;
         rows = read.0;
         first = read.1;
         read = read.2;

@@ -1,10 +1,11 @@
 -- What a call from C does to a register with its journal, and what it returns.
-use Rattle.std.specs.Prelude.{◌≡◌, ◌≢◌, ◌⊎◌, ◌==◌, ℕ, zero, suc, ℤ, pos, List, [], ◌∷◌, ◌++◌, drop, length, slice_get, Option, Some, None, option_map, Result, Ok, Err, if◌then◌else◌}
+use Rattle.std.specs.Prelude.{◌≡◌, ◌≢◌, ◌⊎◌, ◌≤◌, ◌+◌, ◌^◌, ◌==◌, ℕ, zero, suc, ℤ, pos, List, [], ◌∷◌, ◌++◌, drop, length, replicate, slice_get, Option, Some, None, option_map, Result, Ok, Err, if◌then◌else◌}
 use Rattle.tatp_rows.specs.Refusal.{code_of}
 use Rattle.tatp_rows.specs.declared.refusal.Refusal.{Refusal}
 use Rattle.tatp_rows.specs.declared.refusal.Refusal.TheVariants as refusal
 use Rattle.journal_file.specs.Device.{LeavesOnly, over}
-use Rattle.journal_file.specs.Relayed.{relayed_leaves, relayed_left_since, relayed_moment, relayed_seen}
+use Rattle.journal_file.specs.Owner.{owner_of_held}
+use Rattle.journal_file.specs.Relayed.{relayed_leaves, relayed_left_since, relayed_moment, relayed_owner, relayed_seen}
 use Rattle.journal_file.specs.declared.fault.JournalFault.{JournalFault}
 use Rattle.journal_file.specs.declared.fault.JournalFault.TheVariants as fault
 use Rattle.journal_file.specs.declared.record.Step.{Step}
@@ -17,7 +18,7 @@ use Rattle.hlr_owners.specs.Owners.{AllHome, OwnersState, book_in, store_in}
 use Rattle.hlr_owners.specs.Store.{HasOpening, Store, opening}
 use Rattle.hlr_core.specs.declared.event.Event.{Event}
 use Rattle.hlr_kept.specs.Keeping.{IsHanded, IsLike, IsSame, IsSettled, StandsAfterFirst}
-use Rattle.hlr_kept.specs.Rows.{book_of}
+use Rattle.hlr_kept.specs.Rows.{IsNotOpened, book_of}
 use Rattle.hlr_kept.specs.declared.keeping.Journal.{Journal}
 use Rattle.hlr_c.specs.Call.{IsAnswer}
 use Rattle.hlr_c.specs.Told.{code_told}
@@ -86,15 +87,25 @@ pub record IsSafe (register : OwnersState) (journal : FileJournal) : Type 0 wher
   pub rows : (file : List ℕ) → relayed_leaves journal.current.tape.device file
       → HasFence file × (book_of file ≡ Some (book_in register.owners))
 
+-- why a sync fails: memory was refused, or the file would be longer than 2^61 bytes
+abbrev pub IsNotSynced : FileJournal → JournalFault → Type 0
+IsNotSynced journal why =
+    (why ≡ fault.Memory)
+    ⊎ ((why ≡ fault.Full) × (2 ^ 61 ≤ journal.current.tape.len + length journal.current.group.items))
+
 -- A journal was synced, or the sync has failed, and from then on its fault stays. At any moment of the call, a crash
--- leaves a file that stands for the rows after the first so many of the lines that waited.
+-- leaves a file that stands for the rows after the first so many of the lines that waited. No call counts as made by it,
+-- so C is handed each that it has noted. No journal of before is kept.
 pub record IsSynced (register : OwnersState) (before : FileJournal) (code : ℕ) (after : FileJournal) : Type 0 where
   pub done : code ≡ DONE → IsSafe register after
   pub failed : code ≢ DONE → (why : JournalFault) × (code ≡ fault_code why) × (after.current.fault ≡ Some why)
+      × (before.current.fault ≡ None → IsNotSynced before why)
   pub stays : (why : JournalFault) → before.current.fault ≡ Some why → (code ≡ fault_code why) × (after.current ≡ before.current)
   pub any_moment : before.current.fault ≡ None
       → LeavesOnly relayed_moment relayed_left_since before.current.tape.device after.current.tape.device
       (λ file. HasFence file × StandsAfterFirst relayed_seen before.current file)
+  pub owner : relayed_owner after.current.tape.device ≡ relayed_owner before.current.tape.device
+  pub old : after.before ≡ None
 
 -- a sync of the journal, if there is one
 abbrev pub IsSyncing : Open → ℕ → Open → Type 0
@@ -189,14 +200,12 @@ IsUnsyncedTold bytes (before, None) answer after = (answer ≡ (NO_JOURNAL, byte
 IsUnsyncedTold bytes (before, Some was) answer after =
     (answer ≡ unsynced_told bytes was.current.fault was.current.group.items) × (after ≡ (before, Some was))
 
--- the calls on the file of the journal have this descriptor
-abbrev pub LiesIn : ℤ → FileJournal → Type 0
-LiesIn fd journal = journal.current.tape.device.fd ≡ fd
-
 -- A register has the rows of a journal with these bytes, and for the rest is as this store was. The journal keeps it from
--- then on, and a crash at any moment since the file had these bytes leaves these rows.
+-- then on, and a crash at any moment since the file had these bytes leaves these rows. C knows the file by this number, and
+-- has made no call on it since.
 pub record IsComeBack (fd : ℤ) (bytes : List ℕ) (before : Store) (register : OwnersState) (journal : FileJournal) : Type 0 where
-  pub file : LiesIn fd journal
+  pub owner : relayed_owner journal.current.tape.device ≡ owner_of_held fd bytes
+  pub old : journal.before ≡ None
   pub rows : book_of bytes ≡ Some (book_in register.owners)
   pub store : store_in register ≡ record before { book = book_in register.owners }
   pub home : AllHome register.owners
@@ -207,7 +216,7 @@ pub record IsComeBack (fd : ℤ) (bytes : List ℕ) (before : Store) (register :
       (λ left. HasFence left × (book_of left ≡ book_of bytes))
 
 -- an open handle stays as it is; a closed one gets the register of a journal, or stays closed, with Field exactly if no
--- register can be opened with this many parts and this width
+-- register can be opened with this many parts and this width, and otherwise only for memory or if the bytes are no journal
 abbrev pub IsReopening : ℤ → List ℕ → ℕ → ℕ → Option Open → ℕ → Option Open → Type 0
 IsReopening fd bytes parts width (Some kept) code after = (code ≡ STILL_OPEN) × (after ≡ Some kept)
 IsReopening fd bytes parts width None code (Some (register, None)) = ⊥
@@ -215,7 +224,7 @@ IsReopening fd bytes parts width None code (Some (register, Some journal)) =
     (code ≡ DONE) × HasOpening parts width × IsComeBack fd bytes (opening parts width) register journal
 IsReopening fd bytes parts width None code None =
     ((code ≡ code_of refusal.Field) × ¬ (HasOpening parts width))
-    ⊎ (HasOpening parts width × (why : JournalFault) × (code ≡ fault_code why))
+    ⊎ (HasOpening parts width × (why : JournalFault) × (code ≡ fault_code why) × IsNotOpened bytes why)
 
 -- the reason why no snapshot was made: a part is lent, or a fault
 abbrev pub IsNotWritten : OwnersState → ℕ → Type 0
@@ -227,9 +236,10 @@ IsNotWritten register code =
 abbrev pub current_of : Option FileJournal → Option (Journal Relayed)
 current_of journal = option_map (λ one. one.current) journal
 
--- a new journal, which has the rows of the register, with the one that the register had before
+-- a new journal, which has the rows of the register, with the one that the register had before; C knows its file by this
+-- number, which had 65,536 zeros, and has made no call on it since
 pub record IsSnapshotOf (fd : ℤ) (register : OwnersState) (before : Option FileJournal) (journal : FileJournal) : Type 0 where
-  pub file : LiesIn fd journal
+  pub owner : relayed_owner journal.current.tape.device ≡ owner_of_held fd (replicate 65536 0)
   pub safe : IsSafe register journal
   pub old : journal.before ≡ current_of before
 

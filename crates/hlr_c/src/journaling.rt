@@ -8,13 +8,14 @@ ghost use Rattle.journal_file.specs.declared.fault.JournalFault.{JournalFault};
 ghost use Rattle.hlr_owners.specs.Owners.{AllHome, OwnersState, book_in, store_in};
 ghost use Rattle.hlr_owners.specs.Store.{HasOpening, opening};
 ghost use Rattle.journal_file.specs.Device.{LeavesOnly};
-ghost use Rattle.journal_file.specs.Relayed.{relayed_leaves, relayed_left_since, relayed_moment, relayed_seen};
+ghost use Rattle.journal_file.specs.Relayed.{relayed_leaves, relayed_left_since, relayed_moment, relayed_owner, relayed_seen};
 ghost use Rattle.journal.specs.Lines.{HasFence};
 ghost use Rattle.hlr_kept.specs.Keeping.{IsLike, IsSettled, StandsAfterFirst, StandsFor};
+ghost use Rattle.hlr_kept.specs.Rows.{IsNotOpened};
 ghost use Rattle.hlr_c.specs.Call.{IsCall};
 ghost use Rattle.hlr_c.specs.Held.{IsJournaled};
 ghost use Rattle.hlr_c.specs.declared.opened.FileJournal.{FileJournal};
-ghost use Rattle.hlr_c.specs.Journaled.{IsAllMade, IsComeBack, IsEnding, IsMaking, IsOwedTold, IsReopening, IsReserving, IsSafe, IsSnapshot, IsSnapshotOf, IsSyncing, IsUnsyncedTold, current_of, fault_code, opened_in};
+ghost use Rattle.hlr_c.specs.Journaled.{IsAllMade, IsComeBack, IsEnding, IsMaking, IsNotSynced, IsOwedTold, IsReopening, IsReserving, IsSafe, IsSnapshot, IsSnapshotOf, IsSyncing, IsUnsyncedTold, current_of, fault_code, opened_in};
 ghost use Rattle.hlr_c.specs.declared.codes.TheConstants.{NOT_OPEN};
 
 use crate::codes::{AWAY, DONE, FAILED, NO_JOURNAL, STILL_OPEN, code_of_fault};
@@ -42,6 +43,7 @@ fn reopen(
     requires pieces { pieces_of register.regions ≡ [] }
     ensures ok { IfOk result (λ opened. (journal : FileJournal) × (opened.value.journal ≡ Some journal) × IsComeBack fd bytes.now (store_in register) opened.value.lender journal) }
     ensures journaled { IfOk result (λ opened. IsJournaled opened.value.lender opened.value.journal) }
+    ensures refused { IfErr result (λ why. IsNotOpened bytes.now why) }
 {
     let (register, journal) = open_relayed(alloc, register, fd, bytes)?;
     let opened = Opened {
@@ -64,7 +66,7 @@ fn open_kept(
 ) -> Result<Box<Opened>, u8>
     ensures ok { IfOk result (λ opened. HasOpening parts width × (journal : FileJournal) × (opened.value.journal ≡ Some journal) × IsComeBack fd bytes.now (opening parts width) opened.value.lender journal) }
     ensures journaled { IfOk result (λ opened. IsJournaled opened.value.lender opened.value.journal) }
-    ensures err { IfErr result (λ code. ((code ≡ code_of refusal.Field) × ¬ (HasOpening parts width)) ⊎ (HasOpening parts width × (why : JournalFault) × (code ≡ fault_code why))) }
+    ensures err { IfErr result (λ code. ((code ≡ code_of refusal.Field) × ¬ (HasOpening parts width)) ⊎ (HasOpening parts width × (why : JournalFault) × (code ≡ fault_code why) × IsNotOpened bytes.now why)) }
 {
     let register = match open_register(alloc, parts, width) {
         Ok(register) => register,
@@ -152,6 +154,8 @@ fn sync_file(journal: &mut FileJournal) -> Result<(), JournalFault>
     ensures broken { IfErr result (λ why. journal.new.current.fault ≡ Some why) }
     ensures stays { IfSome journal.old.current.fault (λ why. (result ≡ Err why) × (journal.new.current ≡ journal.old.current)) }
     ensures before { journal.new.before ≡ None }
+    ensures owner { relayed_owner journal.new.current.tape.device ≡ relayed_owner journal.old.current.tape.device }
+    ensures refused { IfErr result (λ why. journal.old.current.fault ≡ None → IsNotSynced journal.old why) }
 {
     journal.before = None;
     journal.current.sync()

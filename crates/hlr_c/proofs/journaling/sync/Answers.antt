@@ -28,7 +28,7 @@ returns-in-Ok-clause-answer c =
     let book = book_in c.args.opened.now.lender.owners in let is = kept (goal.at.returns-in-Ok-clause-answer c).In-Some in
     rw c.in-Some.is (
       refl,
-      synced_done c.args.opened.now.lender c.in-Some.journal c.sync_file.new.journal c.sync_file.result (c.sync_file.ensures.any_moment book is.1) c.sync_file.ensures.stays c.in-Ok.field-0 c.in-Ok.is c.in-Ok.ensures.settled (c.sync_file.ensures.stands book is.1),
+      synced_done c.args.opened.now.lender c.in-Some.journal c.sync_file.new.journal c.sync_file.result (c.sync_file.ensures.any_moment book is.1) c.sync_file.ensures.stays c.sync_file.ensures.owner c.sync_file.ensures.before c.in-Ok.field-0 c.in-Ok.is c.in-Ok.ensures.settled (c.sync_file.ensures.stands book is.1),
     )
 
 pub returns-in-Err-clause-answer : goal.returns-in-Err-clause-answer
@@ -36,5 +36,5 @@ returns-in-Err-clause-answer c =
     let book = book_in c.args.opened.now.lender.owners in let is = kept (goal.at.returns-in-Err-clause-answer c).In-Some in
     rw c.in-Some.is (
       refl,
-      synced_failed c.args.opened.now.lender c.in-Some.journal c.sync_file.new.journal c.sync_file.result (c.sync_file.ensures.any_moment book is.1) c.sync_file.ensures.stays c.in-Err.fault c.code_of_fault.result c.in-Err.is c.code_of_fault.ensures c.in-Err.ensures.broken,
+      synced_failed c.args.opened.now.lender c.in-Some.journal c.sync_file.new.journal c.sync_file.result (c.sync_file.ensures.any_moment book is.1) c.sync_file.ensures.stays c.sync_file.ensures.owner c.sync_file.ensures.before c.in-Err.fault c.code_of_fault.result c.in-Err.is c.code_of_fault.ensures c.in-Err.ensures.broken c.in-Err.ensures.refused,
     )

@@ -1,9 +1,10 @@
 use mir.Syntax.{w32}
-use Rattle.std.specs.Prelude.{ℤ}
+use Rattle.std.specs.Prelude.{ℤ, replicate}
 use Rattle.std.proofs.lemmas.Int.{to_z-of_z}
 use Rattle.hlr_c.proofs.Common.{◌≡◌, ◌∙◌, Option, Some, ap, refl, subst, sym, FileJournal, IsJournaled, OwnersState}
 use Rattle.hlr_owners.specs.Owners.{book_in}
-use Rattle.journal_file.specs.Relayed.{relayed_leaves, relayed_seen}
+use Rattle.journal_file.specs.Owner.{owner_of_held}
+use Rattle.journal_file.specs.Relayed.{relayed_leaves, relayed_owner, relayed_seen}
 use Rattle.hlr_kept.specs.Keeping.{StandsFor}
 use Rattle.hlr_c.specs.Journaled.{current_of}
 use Rattle.hlr_c.proofs.JournaledLemmas.{snapshot_journaled, snapshot_of}
@@ -25,7 +26,7 @@ returns-clause-ok c = (
   c.beside_old.result,
   refl,
   snapshot_of c.args.fd c.args.opened.now.lender c.args.opened.now.journal c.in_ok-current.current c.beside_old.result (same c)
-      (subst (λ (f : ℤ). c.in_ok-current.current.tape.device.fd ≡ f) (to_z-of_z w32 c.args.fd c.ranges.fd) c.in_ok-current.ensures.file) c.in_ok-current.ensures.settled (stands c),
+      (subst (λ (f : ℤ). relayed_owner c.in_ok-current.current.tape.device ≡ owner_of_held f (replicate 65536 0)) (to_z-of_z w32 c.args.fd c.ranges.fd) c.in_ok-current.ensures.owner) c.in_ok-current.ensures.settled (stands c),
 )
 
 pub returns-clause-journaled : goal.returns-clause-journaled
