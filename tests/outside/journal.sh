@@ -352,8 +352,14 @@ other_files() {
   begun
   mkdir "$journal"
   hlr_on --journal "$journal" < /dev/null
-  ends 'a folder' 1 '' "$unopened"$'\n'
+  ends 'a folder' 1 '' "$none"$'\n'
   rmdir "$journal"
+  printf 'other\n' > "$room/other"
+  ln -s "$room/other" "$journal.new"
+  hlr_on --journal "$journal" < /dev/null
+  ends 'a link where the new file is made' 1 '' "$unopened"$'\n'
+  is 'the file behind the link' "$(cat "$room/other")" other
+  rm "$journal.new"
   hlr_on --journal "$room/none/rows" < /dev/null
   ends 'a file in no folder' 1 '' "$unopened"$'\n'
   : > "$journal"
