@@ -18,4 +18,4 @@ for library in ../*/out/rlib; do
   words+=(-L "dependency=$library")
 done
 exec "$kit/bin/rattle" build "${words[@]}" --antt-project "$kit/rattle/logic/antt-project.json" \
-  --logic-built "$kit/logic_built" --toolchain "$kit/toolchain" --backend llvm --cpu x86-64 --jobs 1 -o out/libhlr_c.a
+  --logic-built "$kit/logic_built" --toolchain "$kit/toolchain" --backend llvm --cpu x86-64 --jobs "$(nproc)" -o out/libhlr_c.a
