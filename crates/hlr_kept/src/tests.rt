@@ -220,25 +220,6 @@ fn answers_wait_for_the_sync(rt: HostRuntime) -> Result<(), Fail> {
     Ok(())
 }
 
-#[test]
-fn a_snapshot_takes_the_place_of_the_journal(rt: HostRuntime) -> Result<(), Fail> {
-    let alloc = rt.alloc();
-    let image = [0; 256].to_vec(alloc)?;
-    let mut kept = Kept::new(
-        alloc,
-        opened(alloc, UnreadMemory::new(Memory::new(alloc, image)))?,
-    );
-    kept.compact_from(1);
-    for event in &changes()? {
-        kept.submit(&Order::Event(*event))?;
-    }
-    assert_eq!(rt; kept.sync_or_compact()?.len(), CHANGES);
-    let tape = &kept.journaled.journal.tape;
-    assert!(rt; tape.end < LENGTHS[CHANGES]);
-    assert!(rt; has_rows(alloc, tape.device.bytes().to_vec(alloc)?, CHANGES)?);
-    Ok(())
-}
-
 /// Opens a file with this text, and returns why that is refused.
 fn refusal_of(alloc: Global, text: &[u8]) -> Result<Option<JournalFault>, Fail> {
     let mut image = text.to_vec(alloc)?;
