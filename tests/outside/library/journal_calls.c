@@ -421,7 +421,6 @@ static void places(void) {
     hlr_file file = HLR_FILE_CLOSED;
     struct stat about;
     SO(mkdir("folder", 0755) == 0 && symlink("folder/rows", "link") == 0);
-    IS(hlr_file_open(&file, "folder", &handle, 1, 4), HLR_BAD_JOURNAL);
     IS(hlr_file_open(&file, "folder/rows", &handle, 1, 4), HLR_DONE);
     IS(add(&handle, 1), HLR_DONE);
     IS(hlr_file_close(&file, &handle), HLR_DONE);
@@ -437,7 +436,7 @@ static void places(void) {
     IS(hlr_file_close(&file, &handle), HLR_DONE);
     IS(hlr_file_open(&file, "none/rows", &handle, 1, 4), HLR_FAILED);
     IS(hlr_file_open(&file, "", &handle, 1, 4), HLR_FAILED);
-    IS(hlr_file_open(&file, "renamed", &handle, 1, 4), HLR_FAILED);
+    IS(hlr_file_open(&file, "renamed", &handle, 1, 4), HLR_BAD_JOURNAL);
     SO(access(".new", F_OK) != 0 && mkfifo("pipe", 0644) == 0);
     IS(hlr_file_open(&file, "pipe", &handle, 1, 4), HLR_BAD_JOURNAL);
     close(made("empty", "", 0));
