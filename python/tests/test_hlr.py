@@ -499,7 +499,7 @@ class Journal(unittest.TestCase):
         self.assertFalse(os.path.exists(self.path))
         self.assertRaises(TypeError, Register, journal=7)
         self.assertRaises(ValueError, Register, journal=self.path + "\0")
-        self.assertRaises(hlr.Failed, Register, journal=os.path.dirname(self.path))
+        self.assertRaises(hlr.BadJournal, Register, journal=os.path.dirname(self.path))
         self.assertRaises(hlr.Failed, Register, journal=self.path + "/rows")
         for wrong in (b"", b"hlr journal 1\n", b"hello\n\0", b"hlr journal 2\n\0", b"hlr journal 1\nZ\n\0"):
             pathlib.Path(self.path).write_bytes(wrong)
