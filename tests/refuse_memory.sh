@@ -1,6 +1,6 @@
 #!/usr/bin/env bash
 # Refuses memory and starts of threads, one after another: in the built program, without threads and with, in a client of
-# the library for C, and in the built tests that are made for it. It is a part of `test.sh`, and can be run alone.
+# the library for C, and in the built tests that are made for it. `test.sh` runs the same parts.
 #
 #   tests/refuse_memory.sh            all; the last line is 'N passed, N failed'
 #   tests/refuse_memory.sh program    the program and the library alone
@@ -9,7 +9,7 @@
 # it (or `rt lib` in crates/hlr_c) leave in crates/*/out.
 . "$(dirname "$0")/outside/lib.sh" || exit 1
 
-tool gcc 'memory that is refused' || finish
-parts refused_program refused_starts refused_library
-if [ "${1:-all}" = all ]; then parts refused_tests; fi
+names=(refused_program refused_starts refused_library)
+if [ "${1:-all}" = all ]; then names+=(refused_tests); fi
+parts "${names[@]}"
 finish

@@ -1,6 +1,7 @@
-# shellcheck shell=bash disable=SC2154
+# shellcheck shell=bash disable=SC2034,SC2154
 # What the parts share that compile C: the library's archive, and the preload of tests/preload. It is read behind lib.sh.
 archive=crates/hlr_c/out/libhlr_c.a
+sanitizers=(-g -fsanitize=address -fsanitize=undefined -fno-sanitize-recover=undefined)
 
 archive_built() { built "$archive" 'run crates/hlr_c/archive.sh behind rt ci, or rt lib --cpu x86-64 in crates/hlr_c'; }
 

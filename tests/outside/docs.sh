@@ -2,6 +2,8 @@
 # What the pages say of the repository, and how they are written. tools/prose.py and tools/pages.py say what they check.
 . "$(dirname "$0")/lib.sh" || exit 1
 top=$PWD
+# other parts read the repository meanwhile
+export PYTHONDONTWRITEBYTECODE=1
 
 # says_nothing WHAT COMMAND ..: a command that checks finds nothing wrong.
 says_nothing() {

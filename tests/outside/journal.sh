@@ -382,6 +382,32 @@ other_files() {
   refused 'a journal with a line that stands twice' "$damaged"
 }
 
+# little_memory: the program opens the journal in 48 MB of memory.
+little_memory() {
+  (ulimit -v 48000 && exec "$hlr" --journal "$journal") < "$room/in" > "$room/out" 2> "$room/err"
+  status=$?
+}
+
+# A line of 64 MB is not gathered in memory, so a file that has one needs no more than another file.
+long_lines() {
+  local damaged='hlr: read fault: the journal is damaged or of another version; restore a copy of it'
+  printf 'views\n' > "$room/in"
+  "$hlr" < "$room/in" > "$room/no_rows"
+  begun
+  little_memory
+  ends 'an empty journal in little memory' 0 "$(cat "$room/no_rows")"$'\n' ''
+  { printf 'hlr journal 1\n'; head -c 67108864 /dev/zero | tr '\0' x; } > "$room/long_line"
+  { cat "$room/long_line"; printf '\n\0'; } > "$journal"
+  cp "$journal" "$room/before"
+  little_memory
+  ends 'a line of 64 MB' 1 '' "$damaged"$'\n'
+  same 'a line of 64 MB is left as it is' "$journal" "$room/before"
+  { cat "$room/long_line"; printf '\0'; } > "$journal"
+  little_memory
+  ends 'a line of 64 MB without its line feed' 0 "$(cat "$room/no_rows")"$'\n' ''
+  rm "$room/long_line" "$room/before"
+}
+
 # failed NAME: a run on a failing disk ended with its line, and the journal has each record that was replied to.
 failed_disk() {
   case $status in
@@ -513,6 +539,7 @@ no_room_for_a_snapshot
 copies
 locked
 other_files
+long_lines
 failing_disks
 in_time
 no_memory

@@ -67,7 +67,8 @@ server_started() {
   mkdir -p "$room/server" "$room/bin"
   sed -n '/^loadmodule /,/^```$/p' docs/REDIS.md | sed "/^\`\`\`$/d; s,/usr/lib/redis,$tree/lib/redis," > "$settings"
   is 'settings of docs/REDIS.md' "$(grep -c . "$settings")" 11
-  port=$(python3 -c 'import socket; one = socket.socket(); one.bind(("127.0.0.1", 0)); print(one.getsockname()[1])')
+  # none of those that the system gives to others meanwhile
+  port=$(cd tests/outside/redis && python3 -c 'import servers; print(servers.free_port())')
   # shellcheck disable=SC2016
   printf '#!/bin/sh\nexec %s -p %s --no-raw "$@"\n' "$program" "$port" > "$room/bin/redis-cli"
   chmod +x "$room/bin/redis-cli"

@@ -1,8 +1,8 @@
 #!/usr/bin/env bash
-# The Redis module hlr.so: blocks of rows without a server, and then everything else with real servers of Redis.
+# The Redis module hlr.so, with real servers of Redis. blocks.sh tests its blocks of rows without a server.
 #
 # The servers listen on loopback and on free ports, have folders of their own, and end with the test, by their process ids. A
-# server that the machine runs already isn't used or disturbed. The tests run in two rows side by side, which takes two minutes
+# server that the machine runs already isn't used or disturbed. The tests run in two rows side by side, which takes a minute
 # on four processors.
 . "$(dirname "$0")/lib.sh" || exit 1
 . tests/outside/c_lib.sh || exit 1
@@ -19,7 +19,6 @@ module() {
 
 # What makes of the module one that can refuse memory.
 refusing=(-DTRY_ALLOC=refusing_alloc -DRedisModule_OnLoad=load_module "$here/refuse.c")
-sanitizers=(-g -fsanitize=address -fsanitize=undefined -fno-sanitize-recover=undefined)
 
 # compilers: the module by gcc and by clang, of which it gives out one name and asks for what a C library has.
 compilers() {
@@ -30,23 +29,6 @@ compilers() {
     is "names of the module by $compiler" "$(nm -D --defined-only "$room/$compiler.so" | awk '{ print $3 }')" RedisModule_OnLoad
     is "malloc in the module by $compiler" "$(nm -D -u "$room/$compiler.so" | awk '$2 ~ /^(malloc|calloc|realloc|free)(@|$)/ { print $2 }')" ''
   done
-}
-
-# blocks NAME WORD ..: rows as bytes, and threads that load them, without a server.
-blocks() {
-  compiled "$1" -std=gnu11 -g -Wconversion -pthread -Wl,--wrap=malloc "${@:2}" -Iredis -Icrates/hlr_c "$here/blocks.c" \
-    redis/{loading,rows,walk}.c "$archive" "$(kit_archive)"
-}
-
-# bytes: blocks of rows under sanitizers and valgrind, with blocks and chunks of the usual size and with small ones, so that
-# a register of few rows is cut into many parts.
-bytes() {
-  local small=(-DBLOCK_BYTES=4096 -DCHUNK_BLOCKS=2)
-  blocks blocks "${sanitizers[@]}" && ended 'blocks of rows' /dev/null "$room/blocks" 20000
-  blocks small "${sanitizers[@]}" "${small[@]}" && ended 'small blocks of rows' /dev/null "$room/small" 2000
-  blocks raced -fsanitize=thread "${small[@]}" && ended 'threads that load' /dev/null "$room/raced" 10
-  tool valgrind 'blocks of rows under it' || return
-  blocks plain && ended 'blocks of rows under valgrind' /dev/null valgrind -q --leak-check=full --error-exitcode=9 "$room/plain" 300
 }
 
 # python_found: a python3 that has python3-redis, or else any. Only hlr.remote needs it. It is looked for from elsewhere,
@@ -68,8 +50,8 @@ row() {
 
 # servers: all tests with servers, in two rows.
 servers() {
-  local one first=(replica=gcc.so cluster=gcc.so kept=gcc.so rights=gcc.so commands=clang.so)
-  local second=(commands=sanitized.so memory=sanitized.so crash=gcc.so hostile=sanitized.so)
+  local one first=(replica=gcc.so cluster=gcc.so commands=clang.so)
+  local second=(commands=sanitized.so memory=sanitized.so crash=gcc.so hostile=sanitized.so kept=gcc.so rights=gcc.so)
   [ -f "$room/clang.so" ] || cp "$room/gcc.so" "$room/clang.so"
   if python_found && shared libhlr.so.1; then
     export PYTHONPATH=$PWD/python HLR_LIBRARY=$room/libhlr.so.1
@@ -89,7 +71,6 @@ servers() {
 tool gcc 'the module hlr.so' || finish
 archive_built || finish
 compilers
-bytes
 for needed in redis-server redis-sentinel redis-cli openssl python3; do tool "$needed" 'the module hlr.so in servers' || finish; done
 module sanitized.so gcc "${refusing[@]}" "${sanitizers[@]}" || finish
 [ ! -f "$room/gcc.so" ] || servers

@@ -1,6 +1,7 @@
 # shellcheck shell=bash disable=SC2154
 # What the parts of refuse_memory.sh share, which run a command again and again, each time with another call refused. It is
-# read behind lib.sh.
+# read behind lib.sh and c_lib.sh, and ends a part where there is no gcc.
+tool gcc 'memory that is refused' || finish
 
 # begin, and right: what stands between them is one test, passed where nothing was wrong.
 begin() { failed_before=$failed; }
