@@ -4,5 +4,6 @@ pub mod FieldLemmas
 pub mod PackLemmas
 pub mod KindLemmas
 pub mod ReadLemmas
+pub mod LengthLemmas
 pub mod LineLemmas
 pub mod DoneLemmas

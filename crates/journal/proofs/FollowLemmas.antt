@@ -2,10 +2,12 @@
 use Rattle.std.proofs.Common.{◌≡◌, ◌≢◌, Bool, true, false, ℕ, ◌+◌, ◌≤◌, List, [], ◌∷◌, ◌++◌, length, take, refl, sym, ◌∙◌, ap, subst, arith, append_assoc, length-append}
 use Rattle.std.proofs.lemmas.List.{append-nil, take_all, take-append-le}
 use Rattle.std.specs.List.{AllByRecursion}
-use Rattle.journal.specs.Inside.{HasRead, IsInner}
+use Rattle.journal.specs.Inside.{HasRead, IsFollowed, IsInner}
 use Rattle.journal.specs.Lines.{text, lines, open_from, HasFence, IsWhole, recovered}
 use Rattle.journal.specs.Machine.{Runs}
+use Rattle.journal.specs.declared.follower.Follower.{Follower}
 use Rattle.journal.specs.declared.tape.Ends.{Ends}
+use Rattle.journal.proofs.BegunLemmas.{take_none}
 use Rattle.journal.proofs.LineLemmas.{lines_one_feed, lines_one_other, open_one_feed, open_one_other}
 use Rattle.journal.proofs.RunLemmas.{runs-append}
 use Rattle.journal.proofs.TextLemmas.{text_zero, text_byte, text-append, text_fenced, length-text, no_zero-append}
@@ -137,3 +139,24 @@ followed_line moves bytes more first now next at to line is_over was isnt inner 
     let fed = followed_feed moves (bytes ++ more) first now here more is_over begun 10 isnt (omega arith) line none refl next moved in
     let same : to ≡ there = grind (arith, whole, at_text, len) in
     rw same fed
+
+-- nothing was read yet
+pub nothing_read : {M : Type 0} (moves : List ℕ → M → M → Type 0) (most : ℕ) (first : M) (f : Follower)
+    → (f.ends.whole ≡ 0) × (f.ends.text ≡ 0) × (f.ends.len ≡ 0) → f.line.items ≡ [] → f.is_over ≡ false → IsFollowed moves most [] first first f
+nothing_read moves most first f ends none isnt = record {
+  begun = [];
+  read = record {
+    ends = record {
+      order = omega (arith, ends.0, ends.1);
+      at_text = ends.1;
+      at_end = ends.2;
+      same = rw ends.0 refl;
+      is_whole = rw ends.0 refl;
+    };
+    begun = refl;
+    over = λ is. absurd (cc (isnt, is));
+    none = λ _. refl;
+    run = refl;
+  };
+  line = none ∙ take_none most;
+}

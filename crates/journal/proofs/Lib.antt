@@ -1,3 +1,4 @@
+pub mod BegunLemmas
 pub mod FadeLemmas
 pub mod FollowLemmas
 pub mod LineLemmas

@@ -5,7 +5,7 @@ use Rattle.journal_file.specs.Device.{Elapses, LeavesOnly}
 module _ {D : Type 0} (moment : D → ℕ) (left_since : D → ℕ → List ℕ → Type 0) where
   -- before the first call
   pub started : (old : D) (P : List ℕ → Type 0) → ((c : List ℕ) → left_since old (moment old) c → P c) → LeavesOnly moment left_since old old P
-  started old P here = record { later = omega arith; each = here; before = λ t c le left. inl left }
+  started old P here = record { later = omega arith; each = here; before = λ t c le left. inl left; keeps = λ t c le left. left }
 
   -- after one call more
   pub goes_on : (old mid new : D) (P may_leave : List ℕ → Type 0) → LeavesOnly moment left_since old mid P
@@ -15,6 +15,7 @@ module _ {D : Type 0} (moment : D → ℕ) (left_since : D → ℕ → List ℕ 
     later = omega (arith, so_far.later, time.later);
     each = λ c left. ⊎_elim (so_far.each c) (here c) (time.nothing_else (moment old) c so_far.later left);
     before = λ t c le left. ⊎_elim (so_far.before t c le) (λ now. inr (here c now)) (time.nothing_else t c (omega (arith, le, so_far.later)) left);
+    keeps = λ t c le left. time.keeps t c (omega (arith, le, so_far.later)) (so_far.keeps t c le left);
   }
 
   -- less is known
@@ -24,6 +25,7 @@ module _ {D : Type 0} (moment : D → ℕ) (left_since : D → ℕ → List ℕ 
     later = run.later;
     each = λ c left. less c (run.each c left);
     before = λ t c le left. ⊎_elim (λ was. inl was) (λ now. inr (less c now)) (run.before t c le left);
+    keeps = run.keeps;
   }
 
   -- one run of calls after another
@@ -33,4 +35,5 @@ module _ {D : Type 0} (moment : D → ℕ) (left_since : D → ℕ → List ℕ 
     later = omega (arith, first.later, second.later);
     each = λ c left. ⊎_elim (first.each c) (λ is. is) (second.before (moment old) c first.later left);
     before = λ t c le left. ⊎_elim (first.before t c le) (λ is. inr is) (second.before t c (omega (arith, le, first.later)) left);
+    keeps = λ t c le left. second.keeps t c (omega (arith, le, first.later)) (first.keeps t c le left);
   }

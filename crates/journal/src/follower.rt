@@ -1,8 +1,8 @@
 //! Finds the lines in the bytes of a file while they are read.
-ghost use Rattle.std.specs.Prelude.{◌≡◌, ◌≤◌, ◌<◌, ◌+◌, ◌^◌, ◌++◌, [], ◌∷◌, List, ℕ, false, length, take, IfErr, IfOk, OnOk};
+ghost use Rattle.std.specs.Prelude.{◌≡◌, ◌≤◌, ◌<◌, ◌+◌, ◌^◌, ◌++◌, [], ◌∷◌, List, ℕ, false, length, take, slice_index, IfErr, IfOk, OnOk};
 ghost use Rattle.std.specs.List.{AllByRecursion};
 ghost use Rattle.journal_file.specs.declared.fault.JournalFault.TheVariants.{Memory};
-ghost use Rattle.journal.specs.Inside.{IsFollowed, IsInner};
+ghost use Rattle.journal.specs.Inside.{IsEnd, IsFollowed, IsInner};
 ghost use Rattle.journal.specs.Lines.{recovered};
 ghost use Rattle.journal.specs.Machine.{AreRefused};
 
@@ -15,7 +15,7 @@ use std::alloc::Global;
 #[derive(Drop)]
 pub struct Follower {
     pub(crate) ends: Ends,
-    /// The line that has begun, which is the text behind the last line feed.
+    /// The line that has begun, which is the text behind the last line feed. It is cut off at [`Machine::too_long`] bytes.
     line: Vec<u8>,
     /// Whether a 0 was read, with which the text ends.
     is_over: bool,
@@ -50,9 +50,10 @@ impl Follower {
         requires order { self.old.ends.text ≤ self.old.ends.len }
         requires fits { self.old.ends.len + length piece.now < 2 ^ 64 }
         ensures ready { OnOk result (M.IsReady machine.new) }
-        ensures follows { OnOk result ((bytes : List ℕ) (first : M) → IsFollowed M.moves bytes first machine.old self.old
-            → IsFollowed M.moves (bytes ++ piece.now) first machine.new self.new) }
-        ensures refused { IfErr result (λ why. (bytes : List ℕ) (first : M) → IsFollowed M.moves bytes first machine.old self.old
+        ensures len { OnOk result (self.new.ends.len ≡ self.old.ends.len + length piece.now) }
+        ensures follows { OnOk result ((bytes : List ℕ) (first : M) → IsFollowed M.moves M.too_long bytes first machine.old self.old
+            → IsFollowed M.moves M.too_long (bytes ++ piece.now) first machine.new self.new) }
+        ensures refused { IfErr result (λ why. (bytes : List ℕ) (first : M) → IsFollowed M.moves M.too_long bytes first machine.old self.old
             → AreRefused M.moves M.IsBad (recovered (bytes ++ piece.now)) first why) }
     {
         let mut at = 0;
@@ -78,9 +79,9 @@ impl Follower {
         ensures some { IfOk result (λ n. 0 < n) }
         ensures within { IfOk result (λ n. n ≤ length bytes.now) }
         ensures len { IfOk result (λ n. self.new.ends.len ≡ self.old.ends.len + n) }
-        ensures follows { IfOk result (λ n. (read : List ℕ) (first : M) → IsFollowed M.moves read first machine.old self.old
-            → IsFollowed M.moves (read ++ take n bytes.now) first machine.new self.new) }
-        ensures refused { IfErr result (λ why. (read : List ℕ) (first : M) → IsFollowed M.moves read first machine.old self.old
+        ensures follows { IfOk result (λ n. (read : List ℕ) (first : M) → IsFollowed M.moves M.too_long read first machine.old self.old
+            → IsFollowed M.moves M.too_long (read ++ take n bytes.now) first machine.new self.new) }
+        ensures refused { IfErr result (λ why. (read : List ℕ) (first : M) → IsFollowed M.moves M.too_long read first machine.old self.old
             → AreRefused M.moves M.IsBad (recovered (read ++ bytes.now)) first why) }
     {
         if self.is_over {
@@ -89,30 +90,32 @@ impl Follower {
         }
         let n = inner(bytes);
         if n == bytes.len() {
-            self.begin_line(bytes)?;
+            self.begin_line(M::too_long(), bytes)?;
             return Ok(n);
         }
         if bytes[n] == b'\n' && self.line.is_empty() {
             self.do_line(machine, &bytes[..n])?;
             return Ok(n + 1);
         }
-        self.begin_line(&bytes[..n])?;
-        self.push(machine, bytes[n])?;
+        self.begin_line(M::too_long(), &bytes[..n])?;
+        self.end_line(machine, bytes[n])?;
         Ok(n + 1)
     }
 
-    /// Puts bytes behind the line that has begun. Gives up with `Memory`.
-    fn begin_line(&mut self, bytes: &[u8]) -> Result<(), JournalFault>
+    /// Puts bytes behind the line that has begun, of which no more than `most` bytes are kept. Gives up with `Memory`.
+    fn begin_line(&mut self, most: usize, bytes: &[u8]) -> Result<(), JournalFault>
         requires order { self.old.ends.text ≤ self.old.ends.len }
         requires fits { self.old.ends.len + length bytes.now < 2 ^ 64 }
-        ensures line { OnOk result (self.new.line.items ≡ self.old.line.items ++ bytes.now) }
+        ensures line { OnOk result (length self.old.line.items ≤ most → self.new.line.items ≡ take most (self.old.line.items ++ bytes.now)) }
         ensures whole { OnOk result (self.new.ends.whole ≡ self.old.ends.whole) }
         ensures text { OnOk result (self.new.ends.text ≡ self.old.ends.text + length bytes.now) }
         ensures len { OnOk result (self.new.ends.len ≡ self.old.ends.len + length bytes.now) }
         ensures over { OnOk result (self.new.is_over ≡ self.old.is_over) }
         ensures refused { IfErr result (λ why. why ≡ Memory) }
     {
-        self.line.extend_from_slice(bytes)?;
+        let room = most.saturating_sub(self.line.len());
+        let kept = bytes.len().min(room);
+        self.line.extend_from_slice(&bytes[..kept])?;
         self.ends.text += bytes.len();
         self.ends.len += bytes.len();
         Ok(())
@@ -129,9 +132,9 @@ impl Follower {
         ensures ready { OnOk result (M.IsReady machine.new) }
         ensures order { OnOk result (self.new.ends.text ≤ self.new.ends.len) }
         ensures len { OnOk result (self.new.ends.len ≡ self.old.ends.len + length line.now + 1) }
-        ensures follows { OnOk result ((read : List ℕ) (first : M) → IsFollowed M.moves read first machine.old self.old
-            → IsFollowed M.moves (read ++ line.now ++ 10 ∷ []) first machine.new self.new) }
-        ensures refused { IfErr result (λ why. (read : List ℕ) (first : M) → IsFollowed M.moves read first machine.old self.old
+        ensures follows { OnOk result ((read : List ℕ) (first : M) → IsFollowed M.moves M.too_long read first machine.old self.old
+            → IsFollowed M.moves M.too_long (read ++ line.now ++ 10 ∷ []) first machine.new self.new) }
+        ensures refused { IfErr result (λ why. (read : List ℕ) (first : M) → IsFollowed M.moves M.too_long read first machine.old self.old
             → AreRefused M.moves M.IsBad (recovered (read ++ line.now ++ 10 ∷ [])) first why) }
     {
         machine.apply(line)?;
@@ -141,30 +144,30 @@ impl Follower {
         Ok(())
     }
 
-    fn push<M: Machine>(&mut self, machine: &mut M, byte: u8) -> Result<(), JournalFault>
+    /// Takes the byte behind the line that has begun: a 0, with which the text ends, or a line feed, at which the line is
+    /// handed to the machine. Gives up as the machine does.
+    fn end_line<M: Machine>(&mut self, machine: &mut M, byte: u8) -> Result<(), JournalFault>
         requires ready { M.IsReady machine.old }
         requires order { self.old.ends.text ≤ self.old.ends.len }
         requires fits { self.old.ends.len + 1 < 2 ^ 64 }
+        requires text { self.old.is_over ≡ false }
+        requires end { IsEnd byte }
         ensures ready { OnOk result (M.IsReady machine.new) }
         ensures order { OnOk result (self.new.ends.text ≤ self.new.ends.len) }
         ensures len { OnOk result (self.new.ends.len ≡ self.old.ends.len + 1) }
-        ensures follows { OnOk result ((bytes : List ℕ) (first : M) → IsFollowed M.moves bytes first machine.old self.old
-            → IsFollowed M.moves (bytes ++ byte ∷ []) first machine.new self.new) }
-        ensures refused { IfErr result (λ why. (bytes : List ℕ) (first : M) → IsFollowed M.moves bytes first machine.old self.old
+        ensures follows { OnOk result ((bytes : List ℕ) (first : M) → IsFollowed M.moves M.too_long bytes first machine.old self.old
+            → IsFollowed M.moves M.too_long (bytes ++ byte ∷ []) first machine.new self.new) }
+        ensures refused { IfErr result (λ why. (bytes : List ℕ) (first : M) → IsFollowed M.moves M.too_long bytes first machine.old self.old
             → AreRefused M.moves M.IsBad (recovered (bytes ++ byte ∷ [])) first why) }
     {
         self.ends.len += 1;
-        if self.is_over {
-            return Ok(());
-        }
         if byte == 0 {
             self.is_over = true;
             return Ok(());
         }
         self.ends.text += 1;
-        if byte != b'\n' {
-            self.line.push(byte)?;
-            return Ok(());
+        if self.line.len() >= M::too_long() {
+            return Err(JournalFault::BadLine);
         }
         machine.apply(&self.line)?;
         self.line.clear();
@@ -177,6 +180,7 @@ impl Follower {
 fn inner(bytes: &[u8]) -> usize
     ensures within { result ≤ length bytes.now }
     ensures inner { AllByRecursion IsInner (take result bytes.now) }
+    ensures end { result < length bytes.now → IsEnd (slice_index bytes.now result) }
 {
     match memchr2(0, b'\n', bytes) {
         Some(place) => place,

@@ -1,5 +1,5 @@
 //! Reads a file to its end, one piece after another.
-ghost use Rattle.std.specs.Prelude.{◌≡◌, ◌≤◌, ◌⊎◌, ◌^◌, [], length, IfErr, IfOk, OnOk};
+ghost use Rattle.std.specs.Prelude.{◌≡◌, ◌<◌, ◌≤◌, ◌⊎◌, ◌^◌, [], length, IfErr, IfOk, OnOk};
 ghost use Rattle.journal_file.specs.declared.fault.JournalFault.TheVariants.{Failed, Full};
 ghost use Rattle.journal.specs.Lines.{recovered};
 ghost use Rattle.journal.specs.Machine.{AreRefused, Runs};
@@ -10,13 +10,14 @@ use crate::{Ends, Machine};
 use journal_file::{JournalFault, Unread};
 use std::alloc::Global;
 
-/// The bytes of a piece. No more of the file is in memory at a time, apart from a line that has begun.
+/// The bytes of a piece. No more of the file is in memory at a time, apart from a line that has begun, of which no more
+/// is kept than [`Machine::too_long`] says.
 const PIECE: usize = 1 << 14;
 
 const MAX_LEN: usize = 1 << 62;
 
 /// Reads a file to its end, and hands each line of its text to the machine, in order. Returns where the parts of the
-/// file end. Gives up with `Full` past 2^62 bytes, and as [`Unread::read_on`] and the machine do.
+/// file end. Gives up with `Full` from 2^62 bytes on, and as [`Unread::read_on`] and the machine do.
 pub fn replay<U: Unread, M: Machine>(
     alloc: Global,
     unread: &mut U,
@@ -25,12 +26,13 @@ pub fn replay<U: Unread, M: Machine>(
     requires unread { U.read unread.old ≡ [] }
     requires ready { M.IsReady machine.old }
     ensures ready { OnOk result (M.IsReady machine.new) }
+    ensures same { U.IsReadOn unread.old unread.new }
     ensures whole { OnOk result (U.IsRead unread.new) }
     ensures ends { IfOk result (λ ends. AreEnds (U.read unread.new) ends) }
     ensures runs { OnOk result (Runs M.moves (recovered (U.read unread.new)) machine.old machine.new) }
-    // No line is refused but a bad one.
+    // Memory is refused, a line is bad, the disk has failed, or the file is too long.
     ensures refused { IfErr result (λ why. AreRefused M.moves M.IsBad (recovered (U.read unread.new)) machine.old why
-        ⊎ (why ≡ Failed) ⊎ ((why ≡ Full) × (2 ^ 62 ≤ length (U.read unread.new)))) }
+        ⊎ ((why ≡ Failed) × (U.faults unread.old < U.faults unread.new)) ⊎ ((why ≡ Full) × (2 ^ 62 ≤ length (U.read unread.new)))) }
 {
     let mut piece = [0; PIECE];
     let mut follower = Follower::new(alloc);

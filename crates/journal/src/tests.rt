@@ -1,4 +1,5 @@
-ghost use Rattle.std.specs.Prelude.{⊤, ◌≡◌, ◌++◌, [], ◌∷◌, IfOk};
+ghost use Rattle.std.specs.Prelude.{⊤, ◌≡◌, ◌<◌, ◌≤◌, ◌++◌, [], ◌∷◌, length, IfOk};
+ghost use Rattle.std.proofs.Common.{arith};
 ghost use Rattle.journal.specs.Lines.{text, IsWhole};
 ghost use Rattle.journal.specs.Tape.{IsOpen};
 
@@ -18,13 +19,23 @@ impl Machine for Lines {
 
     ghost moves = { λ line old new. new.bytes.items ≡ old.bytes.items ++ line ++ 10 ∷ [] };
 
-    ghost IsBad = { λ line at. ⊥ };
+    ghost IsBad = { λ line at. 4096 ≤ length line };
+
+    ghost too_long = { 4096 };
+
+    fn too_long() -> usize {
+        4_096
+    }
 
     fn apply(&mut self, line: &[u8]) -> Result<(), JournalFault> {
         self.bytes.extend_from_slice(line)?;
         self.bytes.push(b'\n')?;
         Ok(())
     }
+
+    ghost some = { omega arith };
+
+    ghost long_is_bad = { λ line at long. long };
 }
 
 /// Recovers a file, and returns its journal with its lines.
@@ -78,6 +89,26 @@ fn a_text_with_no_fence_is_no_journal(rt: HostRuntime) -> Result<(), Fail> {
     assert!(rt; matches!(answer, Err(JournalFault::NoJournal)));
     let answer = in_memory(alloc, Vec::new(alloc));
     assert!(rt; matches!(answer, Err(JournalFault::NoJournal)));
+    Ok(())
+}
+
+/// A file with a line of 50,000 bytes, and some bytes behind it.
+fn long_line(alloc: Global, end: &[u8]) -> Result<Vec<u8>, Fail> {
+    let mut image = Vec::new(alloc);
+    image.resize(50_000, b'a')?;
+    image.extend_from_slice(end)?;
+    Ok(image)
+}
+
+// The line lies in more than one piece of the file.
+#[test]
+fn a_line_that_is_too_long_counts_only_with_a_line_feed(rt: HostRuntime) -> Result<(), Fail> {
+    let alloc = rt.alloc();
+    let answer = in_memory(alloc, long_line(alloc, b"\n\0")?);
+    assert!(rt; matches!(answer, Err(JournalFault::BadLine)));
+    let (tape, lines) = in_memory(alloc, long_line(alloc, b"\0")?)?;
+    assert!(rt; lines.bytes.is_empty());
+    assert!(rt; tape.device.bytes().iter().all(|byte| *byte == 0));
     Ok(())
 }
 

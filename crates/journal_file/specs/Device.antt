@@ -54,6 +54,8 @@ pub record LeavesOnly {D : Type 0} (moment : D → ℕ) (left_since : D → ℕ 
   pub each : (c : List ℕ) → left_since new (moment old) c → P c
   -- from any earlier moment on, it leaves these or what it might have left by then
   pub before : (t : ℕ) (c : List ℕ) → t ≤ moment old → left_since new t c → left_since old t c ⊎ P c
+  -- and what it might have left by then, it may still have left
+  pub keeps : (t : ℕ) (c : List ℕ) → t ≤ moment old → left_since old t c → left_since new t c
 
 -- A call of a file gives up with `Failed` only if the disk has failed during it, and otherwise with `Memory`.
 pub record HasCause {T : Type 0} (before now : ℕ) (result : Result T JournalFault) : Type 0 where

@@ -1,8 +1,8 @@
 -- The laws of a file's moments, of a list of calls and of a list of contents.
-use Rattle.std.specs.Prelude.{◌≡◌, ◌⊎◌, ℕ, List, [], ◌∷◌, length, drop, Vec}
+use Rattle.std.specs.Prelude.{◌≡◌, ◌⊎◌, ℕ, List, [], ◌∷◌, ◌++◌, length, drop, Vec}
 use Rattle.std.specs.declared.alloc.Global.{Global}
-use Rattle.std.proofs.Common.{inl, inr, refl, arith}
-use Rattle.journal_file.specs.Calls.{Call, seen_after, left_after, left_since}
+use Rattle.std.proofs.Common.{inl, inr, refl, sym, ap, ◌∙◌, append_assoc, arith}
+use Rattle.journal_file.specs.Calls.{AreReads, Call, HasReadOn, IsRead, seen_after, left_after, left_since}
 use Rattle.journal_file.specs.Memory.{HadBeen}
 
 -- what a crash may leave now counts among what it might have left since an earlier moment
@@ -30,3 +30,21 @@ none_left (content ∷ past) c had = none_left past c had
 pub bytes_alone : (past : List (Vec ℕ Global)) (bytes c : List ℕ) → (c ≡ bytes) ⊎ HadBeen (drop (length past) past) c → c ≡ bytes
 bytes_alone past bytes c (inl now) = now
 bytes_alone past bytes c (inr had) = absurd (none_left past c had)
+
+-- nothing was read behind some calls
+pub no_more_reads : (calls : List Call) → HasReadOn calls calls
+no_more_reads calls = ([], tt, refl)
+
+-- one call has read
+pub one_more_read : (call : Call) (first last : List Call) → IsRead call.0 → last ≡ call ∷ first → HasReadOn first last
+one_more_read call first last reads is = (call ∷ [], (reads, tt), is)
+
+-- reads behind reads
+reads-append : (more again : List Call) → AreReads more → AreReads again → AreReads (again ++ more)
+reads-append more [] reads further = reads
+reads-append more (call ∷ again) reads further = (further.0, reads-append more again reads further.1)
+
+-- reads came twice
+pub more_reads : (first then last : List Call) → HasReadOn first then → HasReadOn then last → HasReadOn first last
+more_reads first then last more again =
+    (again.0 ++ more.0, reads-append more.0 again.0 more.1 again.1, again.2 ∙ ap (λ (l : List Call). again.0 ++ l) more.2 ∙ sym (append_assoc again.0 more.0 first))

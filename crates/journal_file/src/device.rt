@@ -104,6 +104,12 @@ pub trait Unread {
     /// The file that may be written once no byte of it is left to be read.
     ghost file: { Self → Self.File };
 
+    /// How often the disk has failed.
+    ghost faults: { Self → ℕ };
+
+    /// The second is the same file as the first, of which more was read.
+    ghost IsReadOn: { Self → Self → Type 0 };
+
     /// Reads the next bytes into the front of the buffer, and returns how many they are. It returns 0 at the end of the
     /// file, or if the buffer is empty. Gives up with `Failed`.
     fn read_on(&mut self, buffer: &mut [u8]) -> Result<usize, JournalFault>
@@ -111,12 +117,21 @@ pub trait Unread {
         ensures length { length buffer.new ≡ length buffer.old }
         ensures read { IfOk result (λ n. read self.new ≡ read self.old ++ take n buffer.new) }
         ensures ends { IfOk result (λ n. n ≡ 0 → 0 < length buffer.old → IsRead self.new) }
-        ensures cause { IfErr result (λ why. why ≡ Failed) };
+        ensures refused { IfErr result (λ why. why ≡ Failed) }
+        ensures cause { HasCause (faults self.old) (faults self.new) result }
+        ensures same { IsReadOn self.old self.new };
 
     /// Hands over the file, which was read to its end.
     fn into_device(self) -> Self::File
         requires whole { IsRead self }
         ensures file { result ≡ file self }
         ensures seen { Self.File.seen result ≡ read self }
-        ensures disk { Only (read self) (Self.File.may_leave result) };
+        ensures disk { Only (read self) (Self.File.may_leave result) }
+        ensures faults { Self.File.faults result ≡ faults self };
+
+    /// A file of which nothing more was read is the same.
+    ghost is_itself: { (file : Self) → IsReadOn file file };
+
+    /// So is one that was read on twice.
+    ghost stays_same: { (first then last : Self) → IsReadOn first then → IsReadOn then last → IsReadOn first last };
 }

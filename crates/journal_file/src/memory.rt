@@ -1,7 +1,7 @@
 //! A file in memory. Each call is done at once, so a crash leaves what is there. The file keeps each content that it
 //! has had, so that its clauses can speak of all moments.
 ghost use Rattle.std.specs.Prelude.{◌≡◌, ◌⊎◌, ◌≤◌, ◌+◌, ◌-◌, ◌++◌, [], ◌∷◌, length, take, drop, replicate, IfOk, OnOk, OnErr, None};
-ghost use Rattle.std.proofs.Common.{inl, refl};
+ghost use Rattle.std.proofs.Common.{◌∙◌, inl, refl};
 ghost use Rattle.journal_file.specs.Laws.{bytes_alone};
 ghost use Rattle.journal_file.specs.Memory.{HadBeen, memory_bytes, memory_read, memory_file};
 
@@ -146,6 +146,14 @@ impl Unread for UnreadMemory {
     ghost IsRead = { λ u. length u.file.bytes.items ≤ u.at };
 
     ghost file = { λ u. u.file };
+
+    ghost faults = { λ u. 0 };
+
+    ghost IsReadOn = { λ first last. last.file ≡ first.file };
+
+    ghost is_itself = { λ file. refl };
+
+    ghost stays_same = { λ first then last more again. again ∙ more };
 
     fn read_on(&mut self, buffer: &mut [u8]) -> Result<usize, JournalFault> {
         let len = self.file.bytes.len();

@@ -11,6 +11,8 @@ use std::marker::Model;
 pub enum Step {
     /// These bytes were read behind those that were read before, from a file that was synced.
     Held,
+    /// The next bytes couldn't be read.
+    Unreadable,
     Wrote { at: usize, is_done: bool },
     Blanked { from: usize, is_done: bool },
     Grew { more: usize, is_done: bool },

@@ -8,8 +8,8 @@ invariant-loop-at g l = record {
   order : l.self.ends.text ≤ l.self.ends.len;
   within : l.at ≤ length l.piece;
   count : l.self.ends.len ≡ l.fn.self.ends.len + l.at;
-  follows : (bytes : List ℕ) (first : g.row.M.Denot) → IsFollowed g.M.Machine.moves bytes first l.fn.machine l.fn.self
-      → IsFollowed g.M.Machine.moves (bytes ++ take l.at l.piece) first l.machine l.self;
+  follows : (bytes : List ℕ) (first : g.row.M.Denot) → IsFollowed g.M.Machine.moves g.M.Machine.too_long bytes first l.fn.machine l.fn.self
+      → IsFollowed g.M.Machine.moves g.M.Machine.too_long (bytes ++ take l.at l.piece) first l.machine l.self;
 }
 
 abbrev pub decreases-loop-at : goal.decreases-loop-at
