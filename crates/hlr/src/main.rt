@@ -3,11 +3,12 @@
 //! are lost when the program ends, unless a journal keeps them.
 #![tactic(auto)]
 
-ghost use Rattle.std.specs.Prelude.{◌≡◌, ◌⊎◌, [], IfErr, IfOk, Some};
+ghost use Rattle.std.specs.Prelude.{◌≡◌, ◌≢◌, [], IfErr, IfOk, Some};
 ghost use Rattle.journal_file.specs.Device.{LeavesOnly};
-ghost use Rattle.journal_file.specs.declared.fault.JournalFault.TheVariants.{Failed, NoJournal};
+ghost use Rattle.journal_file.specs.declared.fault.JournalFault.TheVariants.{NoJournal};
 ghost use Rattle.journal.specs.Lines.{HasFence};
-ghost use Rattle.hlr_kept.specs.Rows.{IsNotOpened, book_of};
+ghost use Rattle.hlr_kept.specs.Opened.{IsGivenBack};
+ghost use Rattle.hlr_kept.specs.Rows.{HasRowsOf, IsGivenUp, book_of};
 ghost use Rattle.hlr_kept.specs.UnderWay.{IsReady, IsUnderWay};
 ghost use Rattle.hlr_owners.specs.Owners.{book_in, store_in};
 
@@ -33,7 +34,7 @@ mod whole_records;
 use clap::error::ErrorKind;
 use fault::{Fault, UNWRITTEN, opening_words};
 use hlr_core::Register;
-use hlr_kept::Journaled;
+use hlr_kept::{GivenBack, Journaled, NotOpened};
 use journal_file::{JournalFault, Unread};
 use journaled::run_journaled;
 use options::{Options, read_options};
@@ -140,20 +141,32 @@ fn open_journaled<U: Unread + Drop>(
     alloc: Global,
     options: &Options<'_>,
     unread: U,
-) -> Result<Journaled<U::File>, JournalFault>
+) -> Result<Journaled<U::File>, NotOpened<U, U::File>>
     requires unread { U.read unread ≡ [] }
     ensures ready { IfOk result (λ now. IsReady U.File.seen U.File.may_leave now) }
     ensures settled { IfOk result (λ now. IsUnderWay U.File.seen U.File.may_leave (store_in now.register) [] [] now) }
     // The rows are those of the bytes that were read to the end of the file, and a crash at any moment since then leaves a
     // file with the same rows.
-    ensures rows { IfOk result (λ now. (last : U) × U.IsRead last × (book_of (U.read last) ≡ Some (book_in now.register.owners))
+    ensures rows { IfOk result (λ now. (last : U) × U.IsReadOn unread last × U.IsRead last × (book_of (U.read last) ≡ Some (book_in now.register.owners))
         × LeavesOnly U.File.moment U.File.left_since (U.file last) now.journal.tape.device (λ c. HasFence c × (book_of c ≡ book_of (U.read last)))) }
-    // If the disk works and memory is there, only a file that isn't a journal is refused.
-    ensures refused { IfErr result (λ why. (why ≡ Failed) ⊎ ((last : U) × IsNotOpened (U.read last) why × (why ≡ NoJournal → U.IsRead last))) }
+    // A file that isn't opened comes back. If all of it was read, a crash at any moment since then leaves the same rows, in
+    // a file that can be opened if this one could.
+    ensures given_back { IfErr result (λ back. IsGivenBack
+        (λ file. U.IsReadOn unread file × IsGivenUp (U.faults unread) (U.faults file) (U.read file) back.why × (back.why ≢ NoJournal))
+        (λ file. (last : U) × U.IsReadOn unread last × U.IsRead last
+        × LeavesOnly U.File.moment U.File.left_since (U.file last) file (HasRowsOf (U.read last))
+        × IsGivenUp (U.faults last) (U.File.faults file) (U.read last) back.why)
+        back.file) }
 {
     match Register::open(alloc, options.parts, options.width) {
         Ok(register) => hlr_kept::open(alloc, register, unread),
-        Err(_) => Err(JournalFault::Memory),
+        Err(_) => {
+            let file = GivenBack::Unread(unread);
+            Err(NotOpened {
+                why: JournalFault::Memory,
+                file,
+            })
+        }
     }
 }
 
@@ -174,7 +187,7 @@ fn answer_kept(rt: &HostRuntime, options: &Options<'_>, path: &str) -> ExitCode 
     };
     let mut journaled = match open_journaled(rt.alloc(), options, unread) {
         Ok(journaled) => journaled,
-        Err(why) => return refuse_journal(rt, why),
+        Err(back) => return refuse_journal(rt, back.why),
     };
     journaled.compact_from((options.snapshot_at as usize).saturating_mul(MEGABYTE));
     let mut sink = Out::new(io::writer(rt));

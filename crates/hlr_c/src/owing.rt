@@ -43,7 +43,7 @@ fn kind_of(step: &Step) -> u32
         Step::Wrote { .. } => WRITE,
         Step::Blanked { .. } | Step::Grew { .. } => ZEROS,
         Step::Synced { .. } => SYNC,
-        Step::Held | Step::Replaced { .. } => 0,
+        Step::Held | Step::Unreadable | Step::Replaced { .. } => 0,
     }
 }
 

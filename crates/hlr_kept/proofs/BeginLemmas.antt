@@ -1,6 +1,7 @@
 -- A file that is made ready to be written.
-use Rattle.std.proofs.Common.{◌≡◌, ◌∙◌, sym, ap, subst, ℕ, ◌+◌, ◌<◌, List, [], ◌∷◌, ◌++◌, arith, length, length-append, take, Some}
-use Rattle.std.specs.Prelude.{◌==◌}
+use Rattle.std.proofs.Common.{◌≡◌, ◌∙◌, sym, ap, subst, ℕ, ◌+◌, ◌<◌, ◌≤◌, List, [], ◌∷◌, ◌++◌, arith, length, length-append, take, Some}
+use Rattle.std.specs.Prelude.{◌==◌, nat_lt}
+use Rattle.std.proofs.lemmas.Bool.Decides.{nat_tests}
 use Rattle.std.specs.List.{AllByRecursion}
 use Rattle.tatp_rows.proofs.OrderedLemmas.{by_test}
 use Rattle.journal_file.specs.Device.{LeavesOnly}
@@ -13,7 +14,7 @@ use Rattle.journal.proofs.TextLemmas.{length-text}
 use Rattle.std.proofs.lemmas.List.{length-take}
 use Rattle.edit_lines.specs.Lines.{first_line}
 use Rattle.hlr_owners.specs.Store.{Store}
-use Rattle.hlr_kept.specs.Rows.{book_of, book_of_lines}
+use Rattle.hlr_kept.specs.Rows.{HasRowsOf, book_of, book_of_lines}
 use Rattle.hlr_kept.specs.Runs.{IsBegun, IsGroup, IsOnDisk}
 use Rattle.hlr_kept.proofs.GroupLemmas.{one_line}
 use Rattle.hlr_kept.proofs.KeptLemmas.{both_leave, first_stands}
@@ -75,15 +76,20 @@ module _ {D : Type 0} (seen : D → List ℕ) (may_leave : D → List ℕ → Ty
       }
 
 module _ {D : Type 0} (seen : D → List ℕ) (moment : D → ℕ) (left_since : D → ℕ → List ℕ → Type 0) (old : D) where
-  -- a crash leaves the rows of the file
   abbrev pub Stays : List ℕ → Type 0
-  Stays c = HasFence c × (book_of c ≡ book_of (seen old))
+  Stays = HasRowsOf (seen old)
 
+  -- lines that stay, and a fence that does if it was there
   pub recovers : (new : D) → LeavesOnly moment left_since old new (λ c. recovered c ≡ recovered (seen old))
-      → LeavesOnly moment left_since old new HasFence → LeavesOnly moment left_since old new Stays
+      → (HasFence (seen old) → LeavesOnly moment left_since old new HasFence) → LeavesOnly moment left_since old new Stays
   recovers new same fence =
-      both_leave moment left_since old new (λ c. recovered c ≡ recovered (seen old)) HasFence Stays same fence
-      (λ c is fenced. (fenced, same_rows (seen old) c is))
+      by_test (nat_lt (length (text (seen old))) (length (seen old)))
+      (λ e. let fenced : HasFence (seen old) = grind (arith, nat_tests) in
+      both_leave moment left_since old new (λ c. recovered c ≡ recovered (seen old)) HasFence Stays same (fence fenced)
+      (λ c is now. (λ _. now, same_rows (seen old) c is)))
+      (λ e. let unfenced : length (seen old) ≤ length (text (seen old)) = grind (arith, nat_tests) in
+      weaker moment left_since old new (λ c. recovered c ≡ recovered (seen old)) Stays same
+      (λ c is. (λ fenced. absurd (omega (arith, fenced, unfenced)), same_rows (seen old) c is)))
 
   pub begins : (mid new : D) (group : List ℕ) → LeavesOnly moment left_since old mid Stays → recovered (seen mid) ≡ recovered (seen old) → recovered (seen old) ≡ [] → IsGroup (first_line ∷ []) group
       → LeavesOnly moment left_since mid new (HasLinesBetween (recovered (seen mid)) (recovered (seen mid) ++ lines group)) → LeavesOnly moment left_since old new Stays
@@ -91,4 +97,4 @@ module _ {D : Type 0} (seen : D → List ℕ) (moment : D → ℕ) (left_since :
       joined moment left_since old mid new Stays before
       (weaker moment left_since mid new (HasLinesBetween (recovered (seen mid)) (recovered (seen mid) ++ lines group)) Stays after
       (λ c between. let now = first_stands c (recovered (seen mid)) (lines group) (same ∙ blank) is.lines between in
-      (now.0, now.1 ∙ sym (ap book_of_lines blank))))
+      (λ _. now.0, now.1 ∙ sym (ap book_of_lines blank))))

@@ -58,6 +58,7 @@ module _ {D : Type 0} (moment : D → ℕ) (left_since : D → ℕ → List ℕ 
     later = one.later;
     each = λ c left. meet c (one.each c left) (two.each c left);
     before = λ t c le left. ⊎_elim (λ was. inl was) (λ p. ⊎_elim (λ was. inl was) (λ q. inr (meet c p q)) (two.before t c le left)) (one.before t c le left);
+    keeps = one.keeps;
   }
 
 -- what a crash leaves while the first line is written

@@ -1,6 +1,6 @@
 -- A register in which lines are done again.
 use Rattle.std.specs.Prelude.{◌⊎◌, ℤ, Result, Ok, Err}
-use Rattle.std.proofs.Common.{◌≡◌, ◌≢◌, ◌≤◌, ◌+◌, ◌^◌, ◌∙◌, refl, sym, ap, subst, inl, inr, ⊎_elim, arith, ℕ, Bool, true, false, List, [], ◌∷◌, length, Some, None}
+use Rattle.std.proofs.Common.{◌≡◌, ◌≢◌, ◌<◌, ◌≤◌, ◌+◌, ◌^◌, ◌∙◌, refl, sym, ap, subst, inl, inr, ⊎_elim, arith, ℕ, Bool, true, false, List, [], ◌∷◌, length, Some, None}
 use Rattle.journal_file.specs.Calls.{Call, left_after, seen_after}
 use Rattle.journal_file.specs.Device.{LeavesOnly, Only}
 use Rattle.journal_file.specs.Owner.{owner_of_held}
@@ -12,13 +12,14 @@ use Rattle.journal_file.specs.declared.relayed.Relayed.{Relayed}
 use Rattle.journal.specs.Lines.{HasFence, recovered}
 use Rattle.journal.specs.Machine.{AreRefused, HasBadLine, Runs}
 use Rattle.journal.specs.Tape.{AreEnds}
+use Rattle.journal.proofs.MomentLemmas.{weaker}
 use Rattle.journal.specs.declared.tape.Ends.{Ends}
 use Rattle.tatp_actions.specs.Book.{Book, empty_book}
 use Rattle.hlr_owners.specs.Owners.{OwnersState, book_in, store_in}
 use Rattle.hlr_owners.specs.Store.{Store}
 use Rattle.edit_lines.specs.declared.error.LineError.{LineError}
 use Rattle.hlr_kept.specs.Restored.{IsBadFor, Leads, LeadsNowhere, Restores}
-use Rattle.hlr_kept.specs.Rows.{HasOtherRows, IsNotOpened, book_after_first, book_after_lines, book_of, book_of_lines}
+use Rattle.hlr_kept.specs.Rows.{HasOtherRows, HasRowsOf, IsGivenUp, IsNotOpened, book_after_first, book_after_lines, book_of, book_of_lines}
 use Rattle.hlr_kept.specs.declared.opening.Restored.{Restored}
 
 -- the lines behind the first one
@@ -91,13 +92,13 @@ not_missing : (file : List ℕ) (a : Restored) (why : JournalFault) → AreRefus
 not_missing file a why (inl memory) is = let clash : Memory ≡ NoJournal = sym memory ∙ is in cc
 not_missing file a why (inr bad) is = let clash : BadLine ≡ NoJournal = sym bad.0 ∙ is in cc
 
-pub read_refused : (file : List ℕ) (a : Restored) (why : JournalFault) → a.is_begun ≡ false → book_in a.register.owners ≡ empty_book
-    → AreRefused Restores IsBadFor (recovered file) a why ⊎ (why ≡ Failed) ⊎ ((why ≡ Full) × (2 ^ 62 ≤ length file))
-    → (why ≡ Failed) ⊎ (IsNotOpened file why × (why ≢ NoJournal))
-read_refused file a why fresh empty (inl refused) = inr (lines_refused file a why fresh empty refused, not_missing file a why refused)
-read_refused file a why fresh empty (inr (inl failed)) = inl failed
-read_refused file a why fresh empty (inr (inr long)) =
-    inr (long_refused file why long.0 long.1, λ is. let clash : Full ≡ NoJournal = sym long.0 ∙ is in cc)
+pub read_refused : (before now : ℕ) (file : List ℕ) (a : Restored) (why : JournalFault) → a.is_begun ≡ false → book_in a.register.owners ≡ empty_book
+    → AreRefused Restores IsBadFor (recovered file) a why ⊎ ((why ≡ Failed) × (before < now)) ⊎ ((why ≡ Full) × (2 ^ 62 ≤ length file))
+    → IsGivenUp before now file why × (why ≢ NoJournal)
+read_refused before now file a why fresh empty (inl refused) = (inr (lines_refused file a why fresh empty refused), not_missing file a why refused)
+read_refused before now file a why fresh empty (inr (inl failed)) = (inl failed, λ is. let clash : Failed ≡ NoJournal = sym failed.0 ∙ is in cc)
+read_refused before now file a why fresh empty (inr (inr long)) =
+    (inr (long_refused file why long.0 long.1), λ is. let clash : Full ≡ NoJournal = sym long.0 ∙ is in cc)
 
 -- or that isn't made ready to be written
 pub not_begun : (file : List ℕ) (Fails : Type 0) (why : JournalFault) → (why ≡ Failed → Fails) → (why ≡ Full → 2 ^ 61 ≤ length file + 14)
@@ -143,6 +144,23 @@ module _ {D : Type 0} (seen : D → List ℕ) (moment : D → ℕ) (left_since :
   read_moments file d device new bytes same handed is leaves =
       let spelled = subst (λ (b : List ℕ). LeavesOnly moment left_since device new (λ c. HasFence c × (book_of c ≡ book_of b))) (ap seen same ∙ is) leaves in
       subst (λ (f : D). LeavesOnly moment left_since f new (λ c. HasFence c × (book_of c ≡ book_of bytes))) (same ∙ handed) spelled
+
+  -- a fence that was there stays
+  pub fenced_moments : (d new : D) → HasFence (seen d) → LeavesOnly moment left_since d new (HasRowsOf (seen d))
+      → LeavesOnly moment left_since d new (λ c. HasFence c × (book_of c ≡ book_of (seen d)))
+  fenced_moments d new fenced leaves =
+      weaker moment left_since d new (HasRowsOf (seen d)) (λ c. HasFence c × (book_of c ≡ book_of (seen d))) leaves (λ c rows. (rows.0 fenced, rows.1))
+
+  -- what a crash leaves where the file isn't opened
+  pub back_moments : (file d new : D) (bytes : List ℕ) → d ≡ file → seen d ≡ bytes
+      → LeavesOnly moment left_since d new (HasRowsOf (seen d)) → LeavesOnly moment left_since file new (HasRowsOf bytes)
+  back_moments file d new bytes handed is leaves =
+      let spelled = subst (λ (b : List ℕ). LeavesOnly moment left_since d new (HasRowsOf b)) is leaves in
+      subst (λ (f : D). LeavesOnly moment left_since f new (HasRowsOf bytes)) handed spelled
+
+-- why it isn't opened, told of what was read
+pub back_given_up : (before before2 now : ℕ) (seen read : List ℕ) (why : JournalFault) → before ≡ before2 → seen ≡ read → IsGivenUp before now seen why → IsGivenUp before2 now read why
+back_given_up before before2 now seen read why same is given = subst (λ (b : List ℕ). IsGivenUp before2 now b why) is (subst (λ (n : ℕ). IsGivenUp n now seen why) same given)
 
 -- a file all of whose bytes are at hand
 module _ (file : Relayed) (bytes : List ℕ) (held : file.log.calls ≡ (Held, bytes) ∷ []) where

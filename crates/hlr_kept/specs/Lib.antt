@@ -1,6 +1,7 @@
 pub mod Draft
 pub mod Keeping
 pub mod Laws
+pub mod Opened
 pub mod Restored
 pub mod Rows
 pub mod Runs

@@ -1,6 +1,6 @@
 -- The rows that a journal stands for. Its first line names the format, and each other line is that of an event which is
 -- answered Done where its turn comes.
-use Rattle.std.specs.Prelude.{◌≡◌, ◌≤◌, ◌+◌, ◌^◌, ⊤, ℕ, List, [], ◌∷◌, length, Option, Some, None, Result, Ok, Err, if◌then◌else◌}
+use Rattle.std.specs.Prelude.{◌≡◌, ◌⊎◌, ◌<◌, ◌≤◌, ◌+◌, ◌^◌, ⊤, ℕ, List, [], ◌∷◌, length, Option, Some, None, Result, Ok, Err, if◌then◌else◌}
 use Rattle.tatp_rows.specs.declared.refusal.Refusal.{Refusal}
 use Rattle.tatp_actions.specs.Book.{Book, empty_book}
 use Rattle.tatp_actions.specs.declared.action.Action.{Action}
@@ -10,7 +10,7 @@ use Rattle.hlr_core.specs.Step.{action_for, is_done, whole_effect}
 use Rattle.hlr_core.specs.declared.event.Event.{Event}
 use Rattle.journal.specs.Lines.{HasFence, recovered}
 use Rattle.journal_file.specs.declared.fault.JournalFault.{JournalFault}
-use Rattle.journal_file.specs.declared.fault.JournalFault.TheVariants.{BadLine, Full, Memory, NoJournal}
+use Rattle.journal_file.specs.declared.fault.JournalFault.TheVariants.{BadLine, Failed, Full, Memory, NoJournal}
 use Rattle.edit_lines.specs.Reading.{event_of, first_checked}
 use Rattle.edit_lines.specs.declared.error.LineError.{LineError}
 
@@ -56,6 +56,10 @@ book_of_lines (first ∷ lines) = book_after_lines lines (book_after_first (firs
 abbrev pub book_of : List ℕ → Option Book
 book_of file = book_of_lines (recovered file)
 
+-- a file has the rows of another one, and can be opened if that one can
+abbrev pub HasRowsOf : List ℕ → List ℕ → Type 0
+HasRowsOf file now = (HasFence file → HasFence now) × (book_of now ≡ book_of file)
+
 -- nothing has changed of a register but its rows
 abbrev pub HasOtherRows : OwnersState → OwnersState → Type 0
 HasOtherRows before after = store_in after ≡ record (store_in before) { book = book_in after.owners }
@@ -68,3 +72,7 @@ IsNotOpened file BadLine = book_of file ≡ None
 IsNotOpened file NoJournal = ¬ (HasFence file)
 IsNotOpened file Full = 2 ^ 61 ≤ length file + 14
 IsNotOpened file _ = ⊥
+
+-- why an opening gives up: the disk has failed meanwhile, or the file can't be opened
+abbrev pub IsGivenUp : ℕ → ℕ → List ℕ → JournalFault → Type 0
+IsGivenUp before now file why = ((why ≡ Failed) × (before < now)) ⊎ IsNotOpened file why

@@ -1,5 +1,5 @@
 //! A tape that a snapshot can be written on.
-ghost use Rattle.std.specs.Prelude.{◌≡◌, [], ⊤, IfOk, replicate};
+ghost use Rattle.std.specs.Prelude.{◌≡◌, [], ⊤, IfOk, OnOk, replicate};
 ghost use Rattle.journal_file.specs.Owner.{owner_of_held};
 ghost use Rattle.journal_file.specs.Relayed.{relayed_leaves, relayed_owner, relayed_seen};
 ghost use Rattle.journal.specs.Lines.{IsWhole, recovered, text};
@@ -52,9 +52,21 @@ impl Machine for NoLine {
 
     ghost IsBad = { λ line at. ⊤ };
 
+    ghost too_long = { 1 };
+
+    fn too_long() -> usize {
+        1
+    }
+
     fn apply(&mut self, _line: &[u8]) -> Result<(), JournalFault> {
         Err(JournalFault::BadLine)
     }
+
+    ghost use Rattle.std.proofs.Common.{arith};
+
+    ghost some = { omega arith };
+
+    ghost long_is_bad = { λ line at long. tt };
 }
 
 /// Reads a file that has no line, as `journal::open_next` makes one, and returns its tape, on which a snapshot can be
@@ -64,6 +76,8 @@ pub fn blank<U: Unread + Drop>(alloc: Global, mut unread: U) -> Result<Tape<U::F
     ensures open_tape { IfOk result (λ tape. IsOpen U.File.seen U.File.may_leave tape) }
     ensures whole { IfOk result (λ tape. IsWhole (text (U.File.seen tape.device))) }
     ensures blank { IfOk result (λ tape. recovered (U.File.seen tape.device) ≡ []) }
+    // The file had no line before.
+    ensures unlined { OnOk result ((last : U) × U.IsReadOn unread last × U.IsRead last × (recovered (U.read last) ≡ [])) }
 {
     let ends = replay(alloc, &mut unread, &mut NoLine)?;
     let mut tape = Tape::new(unread.into_device());

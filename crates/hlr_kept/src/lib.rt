@@ -13,7 +13,11 @@
 //!
 //! ```text
 //! let register = Register::open(alloc, 4, 100_000)?;
-//! let mut kept = Kept::new(alloc, open(alloc, register, journal::open(&rt, "hlr.journal")?)?);
+//! let journaled = match open(alloc, register, journal::open(&rt, "hlr.journal")?) {
+//!     Ok(journaled) => journaled,
+//!     Err(back) => return Err(back.why),    // and the file is `back.file`
+//! };
+//! let mut kept = Kept::new(alloc, journaled);
 //! kept.submit(&first)?;                     // applied, and its answer is held
 //! kept.submit(&second)?;
 //! for answer in kept.sync()? { .. }         // both are on the disk, so the answers may go
@@ -26,6 +30,7 @@ mod journaled;
 mod keeping;
 mod kept;
 mod laws;
+mod not_opened;
 mod opening;
 mod restoring;
 mod snapshots;
@@ -42,6 +47,7 @@ pub use laws::{
     applied_is_ahead, crashes_leave_runs, fronts_are_runs, loses_nothing, redone_is_right,
     written_is_kept,
 };
+pub use not_opened::{GivenBack, NotOpened};
 pub use opening::{open, open_journal, open_relayed};
 pub use restoring::{redo, tells_done};
 pub use snapshots::{snapshot, snapshot_journal, snapshot_relayed, snapshots_stand_for_books};

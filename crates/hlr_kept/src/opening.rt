@@ -14,15 +14,17 @@ ghost use Rattle.edit_lines.specs.Reading.{first_checked};
 ghost use Rattle.hlr_owners.specs.Owners.{AllHome, book_in, store_in};
 ghost use Rattle.hlr_owners.specs.Store.{Store};
 ghost use Rattle.hlr_kept.specs.Keeping.{IsSettled, StandsFor};
+ghost use Rattle.hlr_kept.specs.Opened.{IsGivenBack};
 ghost use Rattle.hlr_kept.specs.Restored.{IsBadFor, Restores};
-ghost use Rattle.hlr_kept.specs.Rows.{HasOtherRows, IsNotOpened, book_of};
+ghost use Rattle.hlr_kept.specs.Rows.{HasOtherRows, HasRowsOf, IsGivenUp, IsNotOpened, book_of};
 ghost use Rattle.hlr_kept.specs.UnderWay.{IsReady, IsUnderWay};
 
 use crate::journaled::{Journaled, Snapshots};
 use crate::keeping::Journal;
+use crate::not_opened::{GivenBack, NotOpened};
 use crate::restoring::redo;
 use crate::writing::begin;
-use edit_lines::check_first_line;
+use edit_lines::{LONGEST, check_first_line};
 use hlr_core::Register;
 use journal::{Device, Ends, JournalFault, Machine, Relayed, Tape, Unread, replay, replay_bytes};
 use std::alloc::Global;
@@ -42,6 +44,12 @@ impl Machine for Restored {
 
     ghost IsBad = { IsBadFor };
 
+    ghost too_long = { 44 };
+
+    fn too_long() -> usize {
+        LONGEST
+    }
+
     fn apply(&mut self, line: &[u8]) -> Result<(), JournalFault> {
         if !self.is_begun {
             return self.begin(line);
@@ -51,6 +59,13 @@ impl Machine for Restored {
             None => Ok(()),
         }
     }
+
+    ghost use Rattle.std.proofs.Common.{arith};
+    ghost use Rattle.hlr_kept.specs.Restored.{long_is_bad};
+
+    ghost some = { omega arith };
+
+    ghost long_is_bad = { long_is_bad };
 }
 
 impl Restored {
@@ -80,12 +95,13 @@ fn restore<U: Unread>(
     requires rows { book_in register.owners ≡ empty_book }
     requires home { AllHome register.owners }
     requires pieces { pieces_of register.regions ≡ [] }
+    ensures same { U.IsReadOn unread.old unread.new }
     ensures whole { OnOk result (U.IsRead unread.new) }
     ensures ends { IfOk result (λ both. AreEnds (U.read unread.new) both.1) }
     ensures rows { IfOk result (λ both. book_of (U.read unread.new) ≡ Some (book_in both.0.owners)) }
     ensures home { IfOk result (λ both. AllHome both.0.owners) }
     ensures stays { IfOk result (λ both. HasOtherRows register both.0) }
-    ensures refused { IfErr result (λ why. (why ≡ Failed) ⊎ (IsNotOpened (U.read unread.new) why × (why ≢ NoJournal))) }
+    ensures refused { IfErr result (λ why. IsGivenUp (U.faults unread.old) (U.faults unread.new) (U.read unread.new) why × (why ≢ NoJournal)) }
 {
     let mut restored = Restored {
         register,
@@ -118,12 +134,13 @@ fn restore_bytes(
     Ok((restored.register, ends))
 }
 
-/// Makes a file that was read to its end ready to be written, and returns it as a journal. Gives up as [`begin`] does.
+/// Makes a file that was read to its end ready to be written, and returns it as a journal. Gives up as [`begin`] does,
+/// and then hands the file back.
 fn resume<D: Device + Drop>(
     alloc: Global,
     device: D,
     ends: Ends,
-) -> Result<Journal<D>, JournalFault>
+) -> Result<Journal<D>, (JournalFault, D)>
     requires ends { AreEnds (D.Device.seen device) ends }
     requires disk { Only (D.Device.seen device) (D.Device.may_leave device) }
     ensures stands { IfOk result (λ journal. (stored : Store) → book_of (D.Device.seen device) ≡ Some stored.book
@@ -132,43 +149,63 @@ fn resume<D: Device + Drop>(
     ensures any_moment { IfOk result (λ journal. LeavesOnly D.Device.moment D.Device.left_since device journal.tape.device
         (λ c. HasFence c × (book_of c ≡ book_of (D.Device.seen device)))) }
     ensures owner { IfOk result (λ journal. D.Device.owner journal.tape.device ≡ D.Device.owner device) }
-    ensures refused { IfErr result (λ why. ((why ≡ Failed) × (after : _) × (D.Device.faults device < D.Device.faults after))
-        ⊎ IsNotOpened (D.Device.seen device) why) }
+    ensures handed_back { IfErr result (λ back. LeavesOnly D.Device.moment D.Device.left_since device back.1 (HasRowsOf (D.Device.seen device))) }
+    ensures refused { IfErr result (λ back. IsGivenUp (D.Device.faults device) (D.Device.faults back.1) (D.Device.seen device) back.0) }
 {
     let mut tape = Tape::new(device);
-    begin(alloc, &mut tape, ends)?;
-    Ok(Journal::new(alloc, tape))
+    match begin(alloc, &mut tape, ends) {
+        Ok(()) => Ok(Journal::new(alloc, tape)),
+        Err(why) => Err((why, tape.device)),
+    }
 }
 
 /// Reads a journal into an empty register, of which no part is lent and no piece is loose, and makes the file ready to
 /// be written. The register has the rows that the file stands for by then; its regions, its words and its slots stay
 /// those of its opening, so nothing is published of these rows yet. A crash during the call leaves the rows as they
 /// are, as [`begin`] says. Returns the register and its journal. Gives up with `BadLine` at a line that isn't right or
-/// whose event isn't answered `Done`, with `Memory`, and as `journal::replay` and [`begin`] do.
+/// whose event isn't answered `Done`, with `Memory`, and as `journal::replay` and [`begin`] do, and then hands the file
+/// back.
 pub fn open_journal<U: Unread + Drop>(
     alloc: Global,
     register: Register,
     unread: U,
-) -> Result<(Register, Journal<U::File>), JournalFault>
+) -> Result<(Register, Journal<U::File>), NotOpened<U, U::File>>
     requires unread { U.read unread ≡ [] }
     requires rows { book_in register.owners ≡ empty_book }
     requires home { AllHome register.owners }
     requires pieces { pieces_of register.regions ≡ [] }
     // The rows are those of the bytes that were read to the end of the file, all of them are on the disk, and a crash at
     // any moment since then leaves a file with the same rows.
-    ensures rows { IfOk result (λ both. (last : U) × U.IsRead last × (book_of (U.read last) ≡ Some (book_in both.0.owners))
+    ensures rows { IfOk result (λ both. (last : U) × U.IsReadOn unread last × U.IsRead last × (book_of (U.read last) ≡ Some (book_in both.0.owners))
         × LeavesOnly U.File.moment U.File.left_since (U.file last) both.1.tape.device (λ c. HasFence c × (book_of c ≡ book_of (U.read last)))) }
     ensures stays { IfOk result (λ both. HasOtherRows register both.0) }
     ensures home { IfOk result (λ both. AllHome both.0.owners) }
     ensures stands { IfOk result (λ both. StandsFor U.File.seen U.File.may_leave (book_in both.0.owners) both.1) }
     ensures settled { IfOk result (λ both. IsSettled both.1) }
-    // If the disk works and memory is there, only a file that isn't a journal is refused.
-    ensures refused { IfErr result (λ why. (why ≡ Failed) ⊎ ((last : U) × IsNotOpened (U.read last) why × (why ≡ NoJournal → U.IsRead last))) }
+    // A file that isn't opened comes back. If all of it was read, a crash at any moment since then leaves the same rows, in
+    // a file that can be opened if this one could.
+    ensures given_back { IfErr result (λ back. IsGivenBack
+        (λ file. U.IsReadOn unread file × IsGivenUp (U.faults unread) (U.faults file) (U.read file) back.why × (back.why ≢ NoJournal))
+        (λ file. (last : U) × U.IsReadOn unread last × U.IsRead last
+        × LeavesOnly U.File.moment U.File.left_since (U.file last) file (HasRowsOf (U.read last))
+        × IsGivenUp (U.faults last) (U.File.faults file) (U.read last) back.why)
+        back.file) }
 {
     let mut unread = unread;
-    let (register, ends) = restore(alloc, register, &mut unread)?;
-    let journal = resume(alloc, unread.into_device(), ends)?;
-    Ok((register, journal))
+    let (register, ends) = match restore(alloc, register, &mut unread) {
+        Ok(restored) => restored,
+        Err(why) => {
+            let file = GivenBack::Unread(unread);
+            return Err(NotOpened { why, file });
+        }
+    };
+    match resume(alloc, unread.into_device(), ends) {
+        Ok(journal) => Ok((register, journal)),
+        Err((why, device)) => {
+            let file = GivenBack::Read(device);
+            Err(NotOpened { why, file })
+        }
+    }
 }
 
 /// Reads a journal, all of whose bytes are at hand, as [`open_journal`] does, and makes its file ready to be written,
@@ -194,8 +231,10 @@ pub fn open_relayed(
     ensures refused { IfErr result (λ why. IsNotOpened bytes.now why) }
 {
     let (register, ends) = restore_bytes(alloc, register, bytes)?;
-    let journal = resume(alloc, Relayed::new(alloc, fd, bytes), ends)?;
-    Ok((register, journal))
+    match resume(alloc, Relayed::new(alloc, fd, bytes), ends) {
+        Ok(journal) => Ok((register, journal)),
+        Err((why, _)) => Err(why),
+    }
 }
 
 /// Opens a register with its journal, as [`open_journal`] does, and returns both as one.
@@ -203,18 +242,23 @@ pub fn open<U: Unread + Drop>(
     alloc: Global,
     register: Register,
     unread: U,
-) -> Result<Journaled<U::File>, JournalFault>
+) -> Result<Journaled<U::File>, NotOpened<U, U::File>>
     requires unread { U.read unread ≡ [] }
     requires rows { book_in register.owners ≡ empty_book }
     requires home { AllHome register.owners }
     requires pieces { pieces_of register.regions ≡ [] }
-    ensures rows { IfOk result (λ now. (last : U) × U.IsRead last × (book_of (U.read last) ≡ Some (book_in now.register.owners))
+    ensures rows { IfOk result (λ now. (last : U) × U.IsReadOn unread last × U.IsRead last × (book_of (U.read last) ≡ Some (book_in now.register.owners))
         × LeavesOnly U.File.moment U.File.left_since (U.file last) now.journal.tape.device (λ c. HasFence c × (book_of c ≡ book_of (U.read last)))) }
     ensures stays { IfOk result (λ now. HasOtherRows register now.register) }
     ensures settled { IfOk result (λ now. IsUnderWay U.File.seen U.File.may_leave (store_in now.register) [] [] now) }
     ensures ready { IfOk result (λ now. IsReady U.File.seen U.File.may_leave now) }
     ensures pieces { IfOk result (λ now. pieces_of now.register.regions ≡ []) }
-    ensures refused { IfErr result (λ why. (why ≡ Failed) ⊎ ((last : U) × IsNotOpened (U.read last) why × (why ≡ NoJournal → U.IsRead last))) }
+    ensures given_back { IfErr result (λ back. IsGivenBack
+        (λ file. U.IsReadOn unread file × IsGivenUp (U.faults unread) (U.faults file) (U.read file) back.why × (back.why ≢ NoJournal))
+        (λ file. (last : U) × U.IsReadOn unread last × U.IsRead last
+        × LeavesOnly U.File.moment U.File.left_since (U.file last) file (HasRowsOf (U.read last))
+        × IsGivenUp (U.faults last) (U.File.faults file) (U.read last) back.why)
+        back.file) }
 {
     let (register, journal) = open_journal(alloc, register, unread)?;
     Ok(Journaled {

@@ -134,6 +134,8 @@ pub fn snapshot_journal<U: Unread + Drop>(
     requires home { AllHome register.now.owners }
     ensures stands { IfOk result (λ journal. StandsFor U.File.seen U.File.may_leave (book_in register.now.owners) journal) }
     ensures settled { IfOk result (λ journal. IsSettled journal) }
+    // The file had no line before.
+    ensures unlined { OnOk result ((last : U) × U.IsReadOn unread last × U.IsRead last × (recovered (U.read last) ≡ [])) }
 {
     let next = blank(alloc, unread)?;
     let tape = snapshot(alloc, register, next)?;

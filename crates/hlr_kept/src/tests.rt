@@ -6,7 +6,7 @@ ghost use Rattle.hlr_kept.specs.UnderWay.{IsReady};
 use super::*;
 use crate::journaled::Snapshots;
 use hlr_core::{Answer, ArrayVec, Event, Order, Refusal, Register, Reply, RowReply};
-use journal::{Device, JournalFault, Memory, Owed, Relayed, Unread, UnreadMemory};
+use journal::{Device, JournalFault, Memory, Owed, Relayed, Step, Unread, UnreadMemory};
 use std::alloc::Global;
 use std::fs;
 use std::test::Fail;
@@ -99,7 +99,10 @@ fn opened<U: Unread + Drop>(alloc: Global, unread: U) -> Result<Journaled<U::Fil
     ensures ready { IfOk result (λ now. IsReady U.File.seen U.File.may_leave now) }
 {
     match Register::open(alloc, 2, 50) {
-        Ok(register) => open(alloc, register, unread),
+        Ok(register) => match open(alloc, register, unread) {
+            Ok(now) => Ok(now),
+            Err(back) => Err(back.why),
+        },
         Err(_) => Err(JournalFault::Memory),
     }
 }
@@ -220,6 +223,37 @@ fn answers_wait_for_the_sync(rt: HostRuntime) -> Result<(), Fail> {
     Ok(())
 }
 
+/// Submits the first so many changes.
+fn submit<D: Device>(kept: &mut Kept<D>, count: usize) -> Result<(), Fail>
+    requires ready { IsReady D.seen D.may_leave kept.old.journaled }
+    ensures ready { OnOk result (IsReady D.seen D.may_leave kept.new.journaled) }
+{
+    for event in changes()?.iter().take(count) {
+        kept.submit(&Order::Event(*event))?;
+    }
+    Ok(())
+}
+
+/// How many changes there are up to the one after which each table has a row.
+const ROWS: usize = CHANGES - 1;
+
+#[test]
+fn a_snapshot_takes_the_place_of_the_journal(rt: HostRuntime) -> Result<(), Fail> {
+    let alloc = rt.alloc();
+    let image = [0; 256].to_vec(alloc)?;
+    let mut kept = Kept::new(
+        alloc,
+        opened(alloc, UnreadMemory::new(Memory::new(alloc, image)))?,
+    );
+    kept.compact_from(1);
+    submit(&mut kept, ROWS)?;
+    assert_eq!(rt; kept.sync_or_compact()?.len(), ROWS);
+    let tape = &kept.journaled.journal.tape;
+    assert!(rt; tape.end < LENGTHS[ROWS]);
+    assert!(rt; has_rows(alloc, tape.device.bytes().to_vec(alloc)?, ROWS)?);
+    Ok(())
+}
+
 /// Opens a file with this text, and returns why that is refused.
 fn refusal_of(alloc: Global, text: &[u8]) -> Result<Option<JournalFault>, Fail> {
     let mut image = text.to_vec(alloc)?;
@@ -248,9 +282,34 @@ fn other_files_are_refused(rt: HostRuntime) -> Result<(), Fail> {
     for (text, want) in texts {
         assert!(rt; refusal_of(alloc, text)? == want);
     }
-    let image = b"hlr journal 1\n".to_vec(alloc)?;
-    let answer = opened(alloc, UnreadMemory::new(Memory::new(alloc, image)));
-    assert!(rt; matches!(answer, Err(JournalFault::NoJournal)));
+    Ok(())
+}
+
+/// A journal without a 0 behind its text.
+const UNFENCED: &[u8] = b"hlr journal 1\n";
+
+#[test]
+fn a_refused_file_comes_back(rt: HostRuntime) -> Result<(), Fail> {
+    let alloc = rt.alloc();
+    let register = Register::open(alloc, 2, 50)?;
+    let file = Memory::new(alloc, UNFENCED.to_vec(alloc)?);
+    match open(alloc, register, UnreadMemory::new(file)) {
+        Ok(_) => panic!(rt; "the file was opened"),
+        Err(back) => match back.file {
+            GivenBack::Read(file) => assert!(rt; file.bytes() == UNFENCED),
+            GivenBack::Unread(_) => panic!(rt; "all of the file was read"),
+        },
+    }
+    Ok(())
+}
+
+#[test]
+fn a_snapshot_wants_a_file_without_lines(rt: HostRuntime) -> Result<(), Fail> {
+    let alloc = rt.alloc();
+    let register = Register::open(alloc, 1, 100)?;
+    let file = Memory::new(alloc, filled(alloc)?);
+    let answer = snapshot_journal(alloc, &register, UnreadMemory::new(file));
+    assert!(rt; matches!(answer, Err(JournalFault::BadLine)));
     Ok(())
 }
 
@@ -303,18 +362,107 @@ fn relayed(alloc: Global, bytes: &[u8]) -> Result<Journaled<Relayed>, JournalFau
     })
 }
 
-/// Makes the calls that are owed on a file, as its owner does.
-fn make_calls(file: &mut Vec<u8>, owed: &[Owed]) -> Result<(), Fail> {
-    for call in owed {
-        if file.len() < call.to {
-            file.resize(call.to, 0)?;
-        }
-        for at in call.from..call.to {
-            if let Some(byte) = file.get_mut(at) {
-                *byte = call.bytes.get(at - call.from).copied().unwrap_or(0);
+/// How many bytes of a file are looked at. More zeros behind them change nothing.
+const ROOM: usize = 256;
+
+/// Makes a call on a file, as its owner does, except for the bytes whose bits are set, which a crash loses. The last bit
+/// stands for all bytes behind the 31st.
+fn make_call(file: &mut Vec<u8>, call: &Owed, lost: u32) -> Result<(), Fail> {
+    let to = call.to.min(ROOM);
+    if file.len() < to {
+        file.resize(to, 0)?;
+    }
+    for (place, at) in (call.from..to).enumerate() {
+        let is_lost = lost >> place.min(31) as u32 & 1 == 1;
+        if let Some(byte) = file.get_mut(at) {
+            if !is_lost {
+                *byte = call.bytes.get(place).copied().unwrap_or(0);
             }
         }
     }
+    Ok(())
+}
+
+/// Makes the calls that are owed on a file.
+fn make_calls(file: &mut Vec<u8>, owed: &[Owed]) -> Result<(), Fail> {
+    for call in owed {
+        make_call(file, call, 0)?;
+    }
+    Ok(())
+}
+
+/// Returns whether a file has the rows after so many changes if a crash in the midst of a call loses these bytes of it.
+fn keeps_rows_without(
+    alloc: Global,
+    file: &[u8],
+    call: &Owed,
+    count: usize,
+    lost: u32,
+) -> Result<bool, Fail> {
+    let mut image = file.to_vec(alloc)?;
+    make_call(&mut image, call, lost)?;
+    has_rows(alloc, image, count)
+}
+
+/// Bytes that may stand behind the old end of a file while it grows. The line among them doesn't count.
+const BEHIND_THE_END: &[u8] = b"one\n";
+
+/// Returns whether a file has the rows after so many changes, whatever a crash in the midst of a call leaves of it. Of a
+/// short call, each subset of its bytes is lost, and of a long one, each byte alone and each end. A file that grows
+/// has a line behind its old end.
+fn keeps_rows_during(alloc: Global, file: &[u8], call: &Owed, count: usize) -> Result<bool, Fail> {
+    if matches!(call.step, Step::Grew { .. }) {
+        let mut image = file.to_vec(alloc)?;
+        image.extend_from_slice(BEHIND_THE_END)?;
+        return has_rows(alloc, image, count);
+    }
+    let len = call.to.saturating_sub(call.from);
+    if len <= 10 {
+        for lost in 1..1u32 << len as u32 {
+            if !keeps_rows_without(alloc, file, call, count, lost)? {
+                return Ok(false);
+            }
+        }
+        return Ok(true);
+    }
+    for bit in 0..len.min(32) as u32 {
+        let (alone, end) = (1 << bit, u32::MAX << bit);
+        if !keeps_rows_without(alloc, file, call, count, alone)?
+            || !keeps_rows_without(alloc, file, call, count, end)?
+        {
+            return Ok(false);
+        }
+    }
+    Ok(true)
+}
+
+// The file is opened, lines are written to it one by one, and it grows once.
+#[test]
+fn each_image_during_a_call_has_its_rows(rt: HostRuntime) -> Result<(), Fail> {
+    let alloc = rt.alloc();
+    // A crash has left a part of the first line.
+    let mut file = b"hlr jou".to_vec(alloc)?;
+    file.resize(64, 0)?;
+    let mut now = relayed(alloc, &file)?;
+    change_all(&mut now)?;
+    let mut lines = 0usize;
+    let mut growths = 0usize;
+    let mut is_synced = true;
+    for call in now.journal.device().owed() {
+        // Only one call at a time isn't on the disk yet.
+        assert!(rt; is_synced != matches!(call.step, Step::Synced { .. }));
+        is_synced = !is_synced;
+        assert!(rt; keeps_rows_during(alloc, &file, call, lines.saturating_sub(1))?);
+        make_call(&mut file, call, 0)?;
+        match call.step {
+            Step::Wrote { .. } => lines = lines.saturating_add(1),
+            Step::Grew { .. } => growths = growths.saturating_add(1),
+            _ => {}
+        }
+        assert!(rt; has_rows(alloc, file.to_vec(alloc)?, lines.saturating_sub(1))?);
+    }
+    assert!(rt; is_synced);
+    assert_eq!(rt; (lines, growths), (CHANGES + 1, 1));
     Ok(())
 }
 

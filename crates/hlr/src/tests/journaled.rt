@@ -34,7 +34,10 @@ fn records_are_answered_with_a_journal(rt: HostRuntime) {
     let mut blank = Vec::new(alloc);
     blank.resize(64, 0).expect(&rt, "memory");
     let unread = UnreadMemory::new(Memory::new(alloc, blank));
-    let mut journaled = hlr_kept::open(alloc, register, unread).expect(&rt, "memory");
+    let mut journaled = match hlr_kept::open(alloc, register, unread) {
+        Ok(journaled) => journaled,
+        Err(_) => panic!(rt; "memory"),
+    };
     let pending = Cell::new(false);
     let mut tape = Tape::new(&pending);
     let done = run_journaled(alloc, RECORDS, &mut journaled, &mut Out::new(&mut tape));

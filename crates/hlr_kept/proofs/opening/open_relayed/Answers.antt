@@ -15,18 +15,18 @@ resume-requires c =
       disk = held_disk file bytes c.new.ensures.calls;
     }
 
-pub returns-clause-rows : goal.returns-clause-rows
-returns-clause-rows c =
+pub returns-in-Ok-clause-rows : goal.returns-in-Ok-clause-rows
+returns-in-Ok-clause-rows c =
     let bytes = c.args.bytes.now in
     let file = c.new.result in (
       c.in_ok-register.ensures.rows,
       file,
       c.new.ensures.calls,
-      read_moments relayed_seen relayed_moment relayed_left_since file file file c.in_ok-journal.journal.tape.device bytes refl refl
-          (held_seen file bytes c.new.ensures.calls) c.in_ok-journal.ensures.any_moment,
+      read_moments relayed_seen relayed_moment relayed_left_since file file file c.in-Ok.journal.tape.device bytes refl refl
+          (held_seen file bytes c.new.ensures.calls) c.in-Ok.ensures.any_moment,
     )
 
-pub returns-clause-stands : goal.returns-clause-stands
-returns-clause-stands c =
-    c.in_ok-journal.ensures.stands (store_in c.in_ok-register.register)
+pub returns-in-Ok-clause-stands : goal.returns-in-Ok-clause-stands
+returns-in-Ok-clause-stands c =
+    c.in-Ok.ensures.stands (store_in c.in_ok-register.register)
     (ap book_of (held_seen c.new.result c.args.bytes.now c.new.ensures.calls) ∙ c.in_ok-register.ensures.rows)

@@ -18,4 +18,4 @@ pub returns-in_err-ends-clause-refused : goal.returns-in_err-ends-clause-refused
 returns-in_err-ends-clause-refused g c =
     let passed = err_from_is_err_and c.from_residual.result c.from_residual.ensures.1 in
     handed_on c.from_residual.result _ passed.0 c.in_err-ends.field-0.0 passed.1 passed.2
-    (read_refused (g.U.Unread.read c.replay.new.unread) (record { register = c.args.register; is_begun = false }) c.in_err-ends.field-0.0 refl c.requires.rows c.in_err-ends.ensures.refused)
+    (read_refused (g.U.Unread.faults c.args.unread.now) (g.U.Unread.faults c.replay.new.unread) (g.U.Unread.read c.replay.new.unread) (record { register = c.args.register; is_begun = false }) c.in_err-ends.field-0.0 refl c.requires.rows c.in_err-ends.ensures.refused)

@@ -13,8 +13,8 @@ commit-requires g c =
     record { is_open = c.in_ok-recover.ensures.is_open; acknowledged = c.in_ok-recover.ensures.acknowledged; whole = c.in_ok-recover.ensures.whole; no_zero = group.no_zero; group = group.whole }
 
 pub returns-in_err-recover-clause-any_moment : goal.returns-in_err-recover-clause-any_moment
-returns-in_err-recover-clause-any_moment g c = λ fenced.
-    recovers g.D.Device.seen g.D.Device.moment g.D.Device.left_since c.args.tape.now.device c.recover.new.self.device c.recover.ensures.any_moment (c.recover.ensures.fence fenced)
+returns-in_err-recover-clause-any_moment g c =
+    recovers g.D.Device.seen g.D.Device.moment g.D.Device.left_since c.args.tape.now.device c.recover.new.self.device c.recover.ensures.any_moment c.recover.ensures.fence
 
 pub returns-then-ends-gt0-clause-stored : goal.returns-then-ends-gt0-clause-stored
 returns-then-ends-gt0-clause-stored g c = λ stored rows.
@@ -22,19 +22,19 @@ returns-then-ends-gt0-clause-stored g c = λ stored rows.
     (has_first (g.D.Device.seen c.args.tape.now.device) c.args.ends c.requires.ends c.if-ends-gt0.true) stored rows
 
 pub returns-then-ends-gt0-clause-any_moment : goal.returns-then-ends-gt0-clause-any_moment
-returns-then-ends-gt0-clause-any_moment g c = λ fenced.
-    recovers g.D.Device.seen g.D.Device.moment g.D.Device.left_since c.args.tape.now.device c.recover.new.self.device c.recover.ensures.any_moment (c.recover.ensures.fence fenced)
+returns-then-ends-gt0-clause-any_moment g c =
+    recovers g.D.Device.seen g.D.Device.moment g.D.Device.left_since c.args.tape.now.device c.recover.new.self.device c.recover.ensures.any_moment c.recover.ensures.fence
 
 pub returns-in_err-push_first_line-clause-any_moment : goal.returns-in_err-push_first_line-clause-any_moment
-returns-in_err-push_first_line-clause-any_moment g c = λ fenced.
-    recovers g.D.Device.seen g.D.Device.moment g.D.Device.left_since c.args.tape.now.device c.recover.new.self.device c.recover.ensures.any_moment (c.recover.ensures.fence fenced)
+returns-in_err-push_first_line-clause-any_moment g c =
+    recovers g.D.Device.seen g.D.Device.moment g.D.Device.left_since c.args.tape.now.device c.recover.new.self.device c.recover.ensures.any_moment c.recover.ensures.fence
 
 pub returns-in_err-commit-clause-any_moment : goal.returns-in_err-commit-clause-any_moment
-returns-in_err-commit-clause-any_moment g c = λ fenced.
+returns-in_err-commit-clause-any_moment g c =
     let seen = g.D.Device.seen in
     let old = c.args.tape.now.device in
     let group = first_group c.new-first.result.items c.deref.result.now (search rules) (c.deref.ensures.value ∙ c.in_ok-push_first_line.ensures.ok) c.push_first_line.ensures.plain in
-    let before = recovers seen g.D.Device.moment g.D.Device.left_since old c.recover.new.self.device c.recover.ensures.any_moment (c.recover.ensures.fence fenced) in
+    let before = recovers seen g.D.Device.moment g.D.Device.left_since old c.recover.new.self.device c.recover.ensures.any_moment c.recover.ensures.fence in
     begins seen g.D.Device.moment g.D.Device.left_since old c.recover.new.self.device c.commit.new.self.device c.deref.result.now before c.in_ok-recover.ensures.lines
     (has_none (seen old) c.args.ends c.requires.ends (omega (arith, c.if-ends-gt0.false))) group c.commit.ensures.any_moment
 
@@ -47,11 +47,11 @@ returns-clause-stored g c = λ stored rows.
     c.in_ok-recover.ensures.lines (has_none (seen old) c.args.ends c.requires.ends (omega (arith, c.if-ends-gt0.false))) group c.in_ok-commit.ensures.lines stored rows
 
 pub returns-clause-any_moment : goal.returns-clause-any_moment
-returns-clause-any_moment g c = λ fenced.
+returns-clause-any_moment g c =
     let seen = g.D.Device.seen in
     let old = c.args.tape.now.device in
     let group = first_group c.new-first.result.items c.deref.result.now (search rules) (c.deref.ensures.value ∙ c.in_ok-push_first_line.ensures.ok) c.push_first_line.ensures.plain in
-    let before = recovers seen g.D.Device.moment g.D.Device.left_since old c.recover.new.self.device c.recover.ensures.any_moment (c.recover.ensures.fence fenced) in
+    let before = recovers seen g.D.Device.moment g.D.Device.left_since old c.recover.new.self.device c.recover.ensures.any_moment c.recover.ensures.fence in
     begins seen g.D.Device.moment g.D.Device.left_since old c.recover.new.self.device c.commit.new.self.device c.deref.result.now before c.in_ok-recover.ensures.lines
     (has_none (seen old) c.args.ends c.requires.ends (omega (arith, c.if-ends-gt0.false))) group c.commit.ensures.any_moment
 
