@@ -15,7 +15,7 @@ pub use Rattle.tatp_rows.specs.declared.refusal.Refusal.TheVariants.{Exists, Mem
 pub use Rattle.mr_subtree.specs.Trees.{IsHeightOf, IsInserted}
 pub use Rattle.std.specs.Prelude.{is_ok, IsTrue}
 pub use Rattle.std.specs.Borrow.{Bor}
-pub use Rattle.std.proofs.lemmas.List.{length-take, map_more, take_all, take_more}
+pub use Rattle.std.proofs.lemmas.List.{length-map, length-take, map_more, take_all, take_more}
 pub use Rattle.mr_node.specs.Folds.{FoldsRows, WalksRows}
 pub use Rattle.mr_node.specs.Pages.{IsPage}
 pub use Rattle.mr_node.specs.Revisions.{revised_at}
@@ -28,6 +28,6 @@ pub use Rattle.tatp_rows.proofs.RowLemmas.{between_from, between_is, both_from}
 pub use Rattle.row_groups.specs.Groups.{AreAccesses, AreFacilities, AreForwardings, IsPut, access_type, access_with, facility_type, facility_with, forwarding_start, forwarding_with}
 pub use Rattle.mr_cut.specs.Cuts.{AreApart, rows_below, rows_from}
 pub use Rattle.group_tree.specs.Tables.{HoldsAccesses, HoldsFacilities, HoldsForwardings, accesses_listed, facilities_listed, facility_span, forwardings_listed, listed_by, s_id_in, subscriber_span, type_in}
-pub use Rattle.group_tree.specs.Groups.{AreGroups, IsBase, IsGroupAt, IsPutAt, IsReplacedAt, base_of, rows_beside, rows_of, Grouped, IsHeightOfGroups, AreGroupsApart}
+pub use Rattle.group_tree.specs.Groups.{AreGroups, IsBase, IsGroupAt, IsPutAt, IsReplacedAt, base_of, rows_beside, rows_of, Grouped, IsHeightOfGroups, AreGroupsApart, AreGroupsAt, rows_in}
 pub use Rattle.mr_subtree.specs.Trees.{IsRoot}
 pub use Rattle.std.proofs.lemmas.List.Elements.{filter-append}

@@ -11,3 +11,4 @@ pub mod HourLemmas
 pub mod ForwardingLemmas
 pub mod PageLemmas
 pub mod CutLemmas
+pub mod CrossingLemmas

@@ -1,8 +1,8 @@
 -- The rows of groups one after another, from a key on.
-use Rattle.group_tree.proofs.Common.{◌≡◌, ◌∙◌, refl, sym, ap, subst, ℕ, zero, suc, IfSome, ◌+◌, ◌*◌, ◌<◌, ◌≤◌, nat_le, true, false, Bool, List, [], ◌∷◌, ◌++◌, length, map, take, get_or, take_all, take_more, Option, Some, None, arith, append_assoc, append-nil, length-append, length-take, AllByRecursion, filter, nat_tests, filter-append, each-weaker, each-left, by_test, keys_from, IsOrderedBy, key_of_pair, value_at, below-weaker, from-weaker, key_limit, AreGroups, base_of, rows_of, IsPage, FoldsRows, folds_append, Bor}
+use Rattle.group_tree.proofs.Common.{AreGroupsAt, rows_beside, rows_in, length-map, ◌≡◌, ◌∙◌, refl, sym, ap, subst, ℕ, zero, suc, IfSome, ◌+◌, ◌*◌, ◌<◌, ◌≤◌, nat_le, true, false, Bool, List, [], ◌∷◌, ◌++◌, length, map, take, get_or, take_all, take_more, Option, Some, None, arith, append_assoc, append-nil, length-append, length-take, AllByRecursion, filter, nat_tests, filter-append, each-weaker, each-left, by_test, keys_from, IsOrderedBy, key_of_pair, value_at, below-weaker, from-weaker, key_limit, AreGroups, base_of, rows_of, IsPage, FoldsRows, folds_append, Bor}
 use Rattle.group_tree.proofs.BaseLemmas.{base_base, base_high, base_low}
 use Rattle.group_tree.proofs.GroupsLemmas.{Around, HaveLaws, IsFilled, rows_below, rows_from, rows_of-append}
-use Rattle.group_tree.proofs.TreeLemmas.{all_kept, beside, front_gone, its_rules, its_value, none_there}
+use Rattle.group_tree.proofs.TreeLemmas.{all_kept, beside, front_gone, its_rules, its_value, none_beside, none_there, some_beside}
 
 -- the keys from 0 on are all
 pub from_zero : {R : Type 0} (rows : List (ℕ × R)) → keys_from key_of_pair 0 rows ≡ rows
@@ -194,13 +194,13 @@ module _ {G R : Type 0} {listed : ℕ → G → List (ℕ × R)} {Holds : ℕ �
       filled = each-left (IsFilled listed Holds span laws) gpage is.rest (subst (AllByRecursion (IsFilled listed Holds span laws)) is.front (each-filter (IsFilled listed Holds span laws) _ groups are.each))
 
   -- the group that was found for one of several keys
+  many_value : (groups : List (ℕ × G)) (keys : List ℕ) (i : ℕ) (d : Option G) → i < length keys → get_or (map (λ k. value_at k groups) (map (base_of span) keys)) i d ≡ value_at (base_of span (get_or keys i 0)) groups
+  many_value groups [] i d within = absurd (omega (arith, within))
+  many_value groups (k ∷ keys) zero d within = refl
+  many_value groups (k ∷ keys) (suc i) d within = many_value groups keys i d (omega (arith, within))
+
   pub many_at : (groups : List (ℕ × G)) (keys : List ℕ) (items : List (Option G)) (i : ℕ) (found : Option G) → items ≡ map (λ k. value_at k groups) (map (base_of span) keys) → i < length keys → found ≡ get_or items i found → found ≡ value_at (base_of span (get_or keys i 0)) groups
-  many_at groups keys items i found all within read = read ∙ ap (λ l. get_or l i found) all ∙ nth keys i found within
-    where
-      nth : (keys : List ℕ) (i : ℕ) (d : Option G) → i < length keys → get_or (map (λ k. value_at k groups) (map (base_of span) keys)) i d ≡ value_at (base_of span (get_or keys i 0)) groups
-      nth [] i d within = absurd (omega (arith, within))
-      nth (k ∷ keys) zero d within = refl
-      nth (k ∷ keys) (suc i) d within = nth keys i d (omega (arith, within))
+  many_at groups keys items i found all within read = read ∙ ap (λ l. get_or l i found) all ∙ many_value groups keys i found within
 
   pub many_holds : (groups : List (ℕ × G)) (are : AreGroups listed Holds groups) (key : ℕ) (found : Option G) → found ≡ value_at (base_of span key) groups → IfSome found (λ group. Holds (base_of span key) group)
   many_holds groups are key None e = tt
@@ -210,3 +210,14 @@ module _ {G R : Type 0} {listed : ℕ → G → List (ℕ × R)} {Holds : ℕ �
       → result ≡ value_at key (rows_of listed groups)
   many_found groups are key None result e none some = none refl ∙ none_there laws are key refl e
   many_found groups are key (Some group) result e none some = its_value laws are key refl group e result some
+
+  -- the rows of a group that was found, and none without it, are all rows of its span
+  rows_found : (groups : List (ℕ × G)) → AreGroups listed Holds groups → (key : ℕ) (found : Option G) → found ≡ value_at (base_of span key) groups → rows_in listed (base_of span key) found ≡ rows_beside span key (rows_of listed groups)
+  rows_found groups are key None e = sym (none_beside laws are key refl e)
+  rows_found groups are key (Some group) e = sym (some_beside laws are key refl group e)
+
+  pub groups_found : (groups : List (ℕ × G)) → AreGroups listed Holds groups → (keys : List ℕ) (items : List (Option G)) → items ≡ map (λ k. value_at k groups) (map (base_of span) keys) → AreGroupsAt span listed (rows_of listed groups) keys items
+  groups_found groups are keys items all = record {
+    count = ap length all ∙ length-map (map (base_of span) keys) (λ k. value_at k groups) ∙ length-map keys (base_of span);
+    each = λ n within. rows_found groups are (get_or keys n 0) (get_or items n None) (ap (λ l. get_or l n None) all ∙ many_value groups keys n None within);
+  }

@@ -1,5 +1,5 @@
 -- Groups that lie in a tree, and the rows that they have together.
-use Rattle.std.specs.Prelude.{◌≡◌, ℕ, ◌+◌, ◌*◌, ◌/◌, ◌^◌, ◌<◌, ◌≤◌, Bool, true, false, List, [], ◌∷◌, ◌++◌, length, Option, None, IsSome, refl}
+use Rattle.std.specs.Prelude.{◌≡◌, ℕ, ◌+◌, ◌*◌, ◌/◌, ◌^◌, ◌<◌, ◌≤◌, Bool, true, false, List, [], ◌∷◌, ◌++◌, length, Option, Some, None, IsSome, refl, slice_index, slice_index_or}
 use Rattle.std.specs.List.{AllByRecursion}
 use Rattle.std.specs.Coded.{Coded, code_by, coded×, coded_ℕ, coded_list}
 use Rattle.tatp_rows.specs.Ordered.{IsOrderedBy, row_at, with_row, with_row_at}
@@ -56,6 +56,17 @@ pub record IsReplacedAt {R : Type 0} (key : ℕ) (row : R) (before after : List 
 -- the rows of the group to which a key belongs
 abbrev pub rows_beside : {R : Type 0} → ℕ → ℕ → List (ℕ × R) → List (ℕ × R)
 rows_beside span key rows = keys_below key_of_pair (base_of span key + span) (keys_from key_of_pair (base_of span key) rows)
+
+-- the rows of a group that was found at a key, or none where none was
+abbrev pub rows_in : {G R : Type 0} → (ℕ → G → List (ℕ × R)) → ℕ → Option G → List (ℕ × R)
+rows_in listed base None = []
+rows_in listed base (Some group) = listed base group
+
+-- one for each of some keys, in their order: the group to which the key belongs, which has all rows of its span, or
+-- none where these are none
+pub record AreGroupsAt {G R : Type 0} (span : ℕ) (listed : ℕ → G → List (ℕ × R)) (rows : List (ℕ × R)) (keys : List ℕ) (found : List (Option G)) : Type 0 where
+  pub count : length found ≡ length keys
+  pub each : (n : ℕ) → n < length keys → rows_in listed (base_of span (slice_index keys n)) (slice_index_or found n None) ≡ rows_beside span (slice_index keys n) rows
 
 -- there is a key at which a group may begin that parts the low rows from the high ones
 abbrev pub AreGroupsApart : {R : Type 0} → ℕ → List (ℕ × R) → List (ℕ × R) → Type 0

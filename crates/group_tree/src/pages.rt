@@ -4,7 +4,7 @@ ghost use Rattle.std.specs.List.{AllByRecursion};
 ghost use Rattle.tatp_rows.specs.Spans.{keys_from};
 ghost use Rattle.mr_node.specs.Pages.{IsPage};
 ghost use Rattle.mr_node.specs.Rows.{key_of_pair, value_at};
-ghost use Rattle.group_tree.specs.Groups.{AreGroups, base_of, rows_of};
+ghost use Rattle.group_tree.specs.Groups.{AreGroups, AreGroupsAt, base_of, rows_of};
 
 use crate::group::{Group, Row};
 use crate::tree::GroupTree;
@@ -84,6 +84,17 @@ impl<R: Row, G: Group<R>> GroupTree<R, G> {
         let from = start_page(&self.groups, key, page);
         self.groups.page_from(from, groups);
         push_groups(page, groups.as_slice());
+    }
+
+    /// Puts the groups to which up to 16 keys belong into an empty list, one for each key in the order of the keys, with
+    /// `None` for a key whose group isn't there. A group has all rows whose keys lie in its span. The keys are looked up
+    /// with overlapping memory accesses.
+    pub fn copy_groups(&self, keys: &[u64], found: &mut ArrayVec<Option<G>, 16>)
+        requires few { length keys.now ≤ 16 }
+        requires empty { found.old.items ≡ [] }
+        ensures { AreGroupsAt G.span G.listed self.now.rows keys.now found.new.items }
+    {
+        self.groups.copy_many(bases::<R, G>(keys).as_slice(), found);
     }
 
     /// Puts the rows at up to 16 keys into an empty list, one for each key in the order of the keys, with `None` for a

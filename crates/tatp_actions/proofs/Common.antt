@@ -12,6 +12,8 @@ pub use Rattle.std.specs.List.{AllByRecursion, filter, find, insert, list_all, p
 pub use Rattle.std.specs.Option.{option_map_or, option_to_list, unwrap_or}
 pub use Rattle.std.specs.Prelude.{count_by, is_some, negsuc, not, option_map, pos, slice_index, ℤ, ⊤, ◌+ℤ◌, ◌≤ℤ◌, ◌⊎◌}
 pub use Rattle.arrayvec.specs.ArrayVec.{ArrayVec, array_vec_len}
+pub use Rattle.group_tree.specs.Groups.{AreGroupsApart, AreGroupsAt, IsBase, IsHeightOfGroups, base_of, rows_beside, rows_in}
+pub use Rattle.group_tree.specs.Tables.{facility_span, forwardings_listed, s_id_in, subscriber_span, type_in}
 pub use Rattle.mr_cut.specs.Bounds.{blanks_for_slice}
 pub use Rattle.mr_cut.specs.Cuts.{AreApart, rows_below, rows_from}
 pub use Rattle.mr_node.proofs.ReviseLemmas.{revised_none, revised_some}
@@ -22,6 +24,7 @@ pub use Rattle.mr_subtree.proofs.CrossingLemmas.{tree_send}
 pub use Rattle.mr_subtree.specs.Trees.{IsHeightOf}
 pub use Rattle.part_table.specs.declared.bounds.TheConstants.{GREATEST_WEIGHT}
 pub use Rattle.part_table.specs.declared.region.Side.TheVariants.{High, Low}
+pub use Rattle.row_groups.specs.Groups.{forwarding_with, is_in_time}
 pub use Rattle.tatp_rows.proofs.AppendLemmas.{each-append, each-left, each-right, ordered-append, ordered-left, ordered-right, row_at-high, row_at-low, with_row-high, with_row-low, with_row_at-high, with_row_at-low, without_row-high, without_row-low}
 pub use Rattle.tatp_rows.proofs.FilterLemmas.{kept, kept_of_three}
 pub use Rattle.tatp_rows.proofs.HalfLemmas.{below_each, from_each, halves_joined}
@@ -42,10 +45,10 @@ pub use Rattle.tatp_actions.specs.Book.{Book, IsBook, IsRowsOf, IsWithin, access
 pub use Rattle.tatp_actions.specs.Cell.{cell, covers, has_active_facility}
 pub use Rattle.tatp_actions.specs.Change.{IsChange, IsNote, NoteEachOnce, NotesFit, change_at, delta_at, hour_notes, is_zero, note_of}
 pub use Rattle.tatp_actions.specs.Cut.{AreHeightsOf, high_part, low_part, melded}
-pub use Rattle.tatp_actions.specs.CutTables.{IsForSlice, TablesApartAt, heights_of, tables_of}
+pub use Rattle.tatp_actions.specs.CutTables.{IsForMeld, IsForSlice, TablesApartAt, heights_of, tables_of}
 pub use Rattle.tatp_actions.specs.Edit.{Acts, notes_of}
 pub use Rattle.tatp_actions.specs.Heights.{Heights, zero_heights}
-pub use Rattle.tatp_actions.specs.Inside.{AreForwardingNotes, AreHours, IsCellNote, IsCompact, IsOnlyAsked, KeepsFacility, KeepsSubscriber, area_moved, asked_once, changed_once, changed_to, covering, destination, facility_revised, in_span, notes_in, number_in_time, row_amount, row_moved, signed, span_amount, subscriber_added, subscriber_revised, until}
+pub use Rattle.tatp_actions.specs.Inside.{AreForwardingNotes, AreHours, IsCellNote, IsCompact, IsOnlyAsked, KeepsFacility, KeepsSubscriber, area_moved, asked_once, changed_once, changed_to, covering, destination, facility_revised, in_span, notes_in, number_in_time, numbers_in, row_amount, row_moved, signed, span_amount, subscriber_added, subscriber_revised, until}
 pub use Rattle.tatp_actions.specs.Joined.{cut_high, cut_low, join_books}
 pub use Rattle.tatp_actions.specs.Part.{IsPart, IsWidth, PartState}
 pub use Rattle.tatp_actions.specs.Recount.{Tallied, is_active_in, one_more_from, one_more_in, with_forwarding, with_row_of, with_subscriber}

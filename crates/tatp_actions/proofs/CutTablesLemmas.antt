@@ -1,5 +1,5 @@
 -- Stored tables that are cut or joined: which books they are, and the rules of their parts.
-use Rattle.tatp_actions.proofs.Common.{◌≡◌, ◌∙◌, refl, sym, ap, subst, ℕ, ◌*◌, ◌<◌, ◌≤◌, ◌==◌, arith, Bool, true, false, List, [], ◌∷◌, ◌++◌, length, nat_lt, nat_le, AllByRecursion, filter, nat_tests, length-map, map-append, rows_below, rows_from, AreApart, IsHeightOf, Low, High, each-append, each-unmap, by_test, each_from_two, key_of, subscriber_key, access_key, facility_key, forwarding_key, SubscriberRow, AccessInfoRow, SpecialFacilityRow, CallForwardingRow, AllBelow, AllFrom, keys_below, keys_from, IsRowsOf, empty_book, AreHeightsOf, low_part, high_part, melded, TablesApartAt, tables_of, heights_of, Heights, zero_heights, join_books, cut_low, cut_high, PartState, IsWidth, Tables, AreKeyed, IsKeyed, empty_tables, stored_book, values_of, Trees}
+use Rattle.tatp_actions.proofs.Common.{◌≡◌, ◌∙◌, refl, sym, ap, subst, ℕ, ◌*◌, ◌<◌, ◌≤◌, ◌==◌, arith, Bool, true, false, List, [], ◌∷◌, ◌++◌, length, nat_lt, nat_le, AllByRecursion, filter, nat_tests, length-map, map-append, rows_below, rows_from, AreApart, AreGroupsApart, IsBase, facility_span, subscriber_span, IsHeightOf, IsHeightOfGroups, Low, High, each-append, each-unmap, by_test, each_from_two, key_of, subscriber_key, access_key, facility_key, forwarding_key, SubscriberRow, AccessInfoRow, SpecialFacilityRow, CallForwardingRow, AllBelow, AllFrom, keys_below, keys_from, IsRowsOf, empty_book, AreHeightsOf, low_part, high_part, melded, TablesApartAt, tables_of, heights_of, Heights, zero_heights, join_books, cut_low, cut_high, PartState, IsWidth, Tables, AreKeyed, IsKeyed, empty_tables, stored_book, values_of, Trees}
 use Rattle.tatp_actions.proofs.CutLemmas.{same_tables, cut_low_rows, cut_high_rows}
 use Rattle.tatp_actions.proofs.JoinedLemmas.{rows_joined}
 use Rattle.tatp_actions.proofs.LocalLemmas.{apart}
@@ -26,9 +26,9 @@ tables_from key tables = record {
 -- there is a key in each table that parts the low pairs from the high ones
 pub record TablesApart (low high : Tables) : Type 0 where
   pub subscribers : AreApart low.subscribers high.subscribers
-  pub access : AreApart low.access high.access
-  pub facilities : AreApart low.facilities high.facilities
-  pub forwardings : AreApart low.forwardings high.forwardings
+  pub access : AreGroupsApart subscriber_span low.access high.access
+  pub facilities : AreGroupsApart subscriber_span low.facilities high.facilities
+  pub forwardings : AreGroupsApart facility_span low.forwardings high.forwardings
 
 -- the pairs of both, table by table
 abbrev pub join_tables : Tables → Tables → Tables
@@ -67,6 +67,26 @@ module _ {X : Type 0} (key : X → ℕ) where
     each_from_two {P = λ (p : ℕ × X). p.0 ≡ key p.1} {Q = λ (p : ℕ × X). key p.1 < k} (λ p same under. omega arith) low low_keyed (each-unmap (λ (p : ℕ × X). p.1) (λ (row : X). key row < k) low below),
     each_from_two {P = λ (p : ℕ × X). p.0 ≡ key p.1} {Q = λ (p : ℕ × X). k ≤ key p.1} (λ p same over. omega arith) high high_keyed (each-unmap (λ (p : ℕ × X). p.1) (λ (row : X). k ≤ key row) high from),
   )
+
+  -- or a key at which a group may begin
+  groups_apart : (span k : ℕ) (low high : List (ℕ × X)) → IsBase span k → IsKeyed key low → IsKeyed key high → AllBelow key k (values_of low) → AllFrom key k (values_of high) → AreGroupsApart span low high
+  unfolding pairs_apart
+  groups_apart span k low high base low_keyed high_keyed below from = let apart = pairs_apart k low high low_keyed high_keyed below from in (k, base, apart.1, apart.2)
+
+-- the rows of a subscriber begin at a key at which groups of each kind may begin
+subscriber_base : (n : ℕ) → IsBase subscriber_span (n * 65536)
+subscriber_base n = omega arith
+
+facility_base : (n : ℕ) → IsBase facility_span (n * 65536)
+facility_base n = omega arith
+
+-- and a key between two subscribers lies between two facilities
+pub base_of_facilities : (key : ℕ) → IsBase subscriber_span key → IsBase facility_span key
+base_of_facilities key base = omega arith
+
+-- a subscriber's key lies between two subscribers
+pub base_of_subscriber : (key s : ℕ) → key ≡ key_of s 0 0 → IsBase subscriber_span key
+base_of_subscriber key s is = omega arith
 
 -- the books of the halves of tables
 below_book : (n : ℕ) (tables : Tables) → AreKeyed tables → stored_book (tables_below (n * 65536) tables) ≡ cut_low n (stored_book tables)
@@ -183,9 +203,9 @@ module _ {h h' : Heights} (low high : Tables) (asked lo n width steps asked' n' 
       let parts = apart lo n hi (stored_book low) (stored_book high) of_low.0.rows high_rows in
       record {
         subscribers = pairs_apart subscriber_key (n * 65536) low.subscribers high.subscribers of_low.1.subscribers of_high.1.subscribers parts.subscribers_below parts.subscribers_from;
-        access = pairs_apart access_key (n * 65536) low.access high.access of_low.1.access of_high.1.access parts.access_below parts.access_from;
-        facilities = pairs_apart facility_key (n * 65536) low.facilities high.facilities of_low.1.facilities of_high.1.facilities parts.facilities_below parts.facilities_from;
-        forwardings = pairs_apart forwarding_key (n * 65536) low.forwardings high.forwardings of_low.1.forwardings of_high.1.forwardings parts.forwardings_below parts.forwardings_from;
+        access = groups_apart access_key subscriber_span (n * 65536) low.access high.access (subscriber_base n) of_low.1.access of_high.1.access parts.access_below parts.access_from;
+        facilities = groups_apart facility_key subscriber_span (n * 65536) low.facilities high.facilities (subscriber_base n) of_low.1.facilities of_high.1.facilities parts.facilities_below parts.facilities_from;
+        forwardings = groups_apart forwarding_key facility_span (n * 65536) low.forwardings high.forwardings (facility_base n) of_low.1.forwardings of_high.1.forwardings parts.forwardings_below parts.forwardings_from;
       }
 
   -- and joined they keep the rules of a part
@@ -261,8 +281,8 @@ module _ {h : Heights} (tables none : Tables) (asked lo hi width steps : ℕ) wh
   )
 
 -- the heights of trees, as those of their tables' book
-pub heights_are : (trees : Trees) → IsHeightOf trees.subscribers.height (length trees.subscribers.rows) → IsHeightOf trees.access.height (length trees.access.rows)
-    → IsHeightOf trees.facilities.height (length trees.facilities.rows) → IsHeightOf trees.forwardings.height (length trees.forwardings.rows)
+pub heights_are : (trees : Trees) → IsHeightOf trees.subscribers.height (length trees.subscribers.rows) → IsHeightOfGroups trees.access.height (length trees.access.rows)
+    → IsHeightOfGroups trees.facilities.height (length trees.facilities.rows) → IsHeightOfGroups trees.forwardings.height (length trees.forwardings.rows)
     → AreHeightsOf (heights_of trees) (stored_book (tables_of trees))
 heights_are trees subscribers access facilities forwardings = record {
   subscribers = rw (length-map trees.subscribers.rows (λ (p : ℕ × SubscriberRow). p.1)) subscribers;

@@ -1,5 +1,5 @@
 -- The numbers that a call is forwarded to, from three questions by key.
-use Rattle.tatp_actions.proofs.Common.{◌≡◌, refl, sym, ◌∙◌, ap, ℕ, ◌+◌, ◌<◌, ◌≤◌, arith, true, false, List, [], ◌∷◌, ◌++◌, map, length, Option, Some, None, nat_le, nat_lt, inl, inr, ◌&&◌, ◌==◌, ◌⊎◌, if◌then◌else◌, filter, list_all, option_to_list, nat_tests, map-append, ArrayVec, array_vec_len, kept, kept_of_three, by_test, each-weaker, key_found, both, both_from, forwarding_ranges, key_of, forwarding_key, CallForwardingRow, SpecialFacilityRow, is_between, is_start_time, forwarding_in_range, is_in_range, takes_call, destinations, new_destination, Book, IsBook, IsWithin, facility_at, has_active, forwarding_at, PartState, IsPart, Acts, destination, number_in_time, IsOnlyAsked, NewDestination}
+use Rattle.tatp_actions.proofs.Common.{◌≡◌, refl, sym, ◌∙◌, ap, ℕ, ◌+◌, ◌<◌, ◌≤◌, arith, true, false, List, [], ◌∷◌, ◌++◌, map, length, Option, Some, None, nat_le, nat_lt, inl, inr, ◌&&◌, ◌==◌, ◌⊎◌, if◌then◌else◌, filter, list_all, option_to_list, nat_tests, map-append, ArrayVec, array_vec_len, kept, kept_of_three, by_test, each-weaker, key_found, both, both_from, forwarding_ranges, key_of, forwarding_key, CallForwardingRow, SpecialFacilityRow, is_between, is_start_time, forwarding_in_range, is_in_range, takes_call, destinations, new_destination, Book, IsBook, IsWithin, facility_at, has_active, forwarding_at, PartState, IsPart, Acts, destination, number_in_time, IsOnlyAsked, NewDestination, asked_once, once_more}
 use Rattle.tatp_rows.specs.declared.refusal.Refusal.TheVariants as refusal
 use Rattle.tatp_actions.specs.declared.action.RowReply.TheVariants as reply
 use Rattle.tatp_actions.proofs.ActsLemmas.{acts_read, is_typed_from}
@@ -20,15 +20,6 @@ destination_late book s t hour a e late = sym (cases (forwarding_at book s t hou
     cases None is = rw is refl
     cases (Some row) is =
         by_test (takes_call s t a e row) (λ takes. absurd (never row (key_found forwarding_key (key_of s t hour) book.forwardings row is) takes)) (λ no. rw (is, no) refl)
-
--- calls that all start before an hour take none that starts at it
-pub all_late : (book : Book) (hour : ℕ) (asked : List (ℕ × ℕ × ℕ × ℕ)) → list_all (λ (q : ℕ × ℕ × ℕ × ℕ). nat_lt q.2 hour) asked ≡ true
-    → map (λ q. None) asked ≡ map (λ (q : ℕ × ℕ × ℕ × ℕ). destination q.0 q.1 q.2 q.3 (forwarding_at book q.0 q.1 hour)) asked
-all_late book hour [] late = refl
-all_late book hour (q ∷ asked) late =
-    let parts = both (nat_lt q.2 hour) (list_all (λ (q : ℕ × ℕ × ℕ × ℕ). nat_lt q.2 hour) asked) late in
-    let first : q.2 < hour = grind (arith, nat_tests) in
-    rw (← destination_late book q.0 q.1 hour q.2 q.3 first, all_late book hour asked parts.1) refl
 
 -- one that was found takes a call by its times alone
 pub by_times : (book : Book) (s t hour a e : ℕ) → IsBook book → t < 256 → hour < 256 → (o : Option CallForwardingRow) → o ≡ forwarding_at book s t hour → number_in_time hour a e o ≡ destination s t a e o
@@ -85,14 +76,6 @@ module _ (book : Book) (s t a e : ℕ) (rules : IsBook book) where
       → numbers ≡ (option_to_list n0 ++ option_to_list n8) ++ option_to_list n16 → numbers ≡ destinations book s t a e
   numbers_lent n0 n8 n16 numbers active is0 is8 is16 gathered = rw (← active, gathered, is0, is8, is16) three_found
 
-  -- so are those of a facility that was found, and none where it isn't active
-  pub active_numbers : (o : Option SpecialFacilityRow) (n0 n8 n16 : Option ℕ) (numbers : List ℕ) → o ≡ facility_at book s t
-      → n0 ≡ destination s t a e (forwarding_at book s t 0) → n8 ≡ destination s t a e (forwarding_at book s t 8) → n16 ≡ destination s t a e (forwarding_at book s t 16)
-      → numbers ≡ (if has_active o then (option_to_list n0 ++ option_to_list n8) ++ option_to_list n16 else []) → numbers ≡ destinations book s t a e
-  active_numbers o n0 n8 n16 numbers is is0 is8 is16 gathered = by_test (has_active o)
-      (λ active. numbers_lent n0 n8 n16 numbers (rw is at (sym active)) is0 is8 is16 (rw active at gathered))
-      (λ idle. gathered ∙ rw (← is, idle) refl)
-
 -- the answer to numbers that were found, and to none
 numbers_answered : (book : Book) (ns : List ℕ) → (length ns == 0) ≡ false → new_destination book ns ≡ (reply.Numbers (record { items = ns }), book)
 numbers_answered book [] some = absurd cc
@@ -101,6 +84,12 @@ numbers_answered book (n ∷ ns) some = refl
 none_answered : (book : Book) (ns : List ℕ) → (length ns == 0) ≡ true → new_destination book ns ≡ (reply.Refused refusal.NoDestination, book)
 none_answered book [] none = refl
 none_answered book (n ∷ ns) none = absurd (grind (arith, nat_tests))
+
+-- a read by key
+pub asked_again : (before after : PartState) → after ≡ asked_once before → IsOnlyAsked 1 before after
+asked_again before after kept =
+    let count : after.asked ≡ once_more before.asked = ap (λ (p : PartState). p.asked) kept in
+    (kept ∙ ap (λ (n : ℕ). record before { asked = n }) (sym count), omega arith)
 
 -- one read after another
 pub asked_then : (m n : ℕ) (a b c : PartState) → IsOnlyAsked m a b → IsOnlyAsked n b c → IsOnlyAsked (m + n) a c

@@ -8,6 +8,7 @@ pub mod ActiveLemmas
 pub mod AdministrationLemmas
 pub mod TransactionLemmas
 pub mod DestinationLemmas
+pub mod ForwardedLemmas
 pub mod BookLemmas
 pub mod CellLemmas
 pub mod ChangeLemmas

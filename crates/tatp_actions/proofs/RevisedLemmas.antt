@@ -113,6 +113,21 @@ module _ {h : Heights} (tables tables1 : Tables) (n n1 lo hi width steps k s t :
   pub facility_holds : {h1 : Heights} → Holds tables1 n1 lo hi width steps h1
   facility_holds {h1} = (by_facility {h1 = h1} (facility_at (stored_book tables) s t) refl).1
 
+-- a facility that is changed so keeps its key
+pub facility_keeps : {h : Heights} (tables : Tables) (n lo hi width steps k s t : ℕ) (change : SpecialFacilityRow → SpecialFacilityRow) → k ≡ key_of s t 0 → t < 256 → Holds tables n lo hi width steps h → KeepsFacility change
+    → IfSome (value_at k tables.facilities) (λ row. facility_key (change row) ≡ k)
+facility_keeps tables n lo hi width steps k s t change at small holds keeps =
+    subst (λ (o : Option SpecialFacilityRow). IfSome o (λ row. facility_key (change row) ≡ k)) (sym (facility_there tables k s t holds.1 at)) (kept (facility_at (stored_book tables) s t) refl)
+  where
+    kept : (o : Option SpecialFacilityRow) → facility_at (stored_book tables) s t ≡ o → IfSome o (λ row. facility_key (change row) ≡ k)
+    kept None is = tt
+    kept (Some row) is =
+        let keep = keeps row (each_found facility_key (λ (r : SpecialFacilityRow). facility_in_range r ≡ true) (key_of s t 0) (stored_book tables).facilities row holds.0.rows.rules.facilities_in_range is) in
+        let parts = facility_found (stored_book tables) s t row holds.0.rows.rules small is in
+        let own : (change row).s_id ≡ s = keep.0 ∙ parts.0 in
+        let kind : (change row).sf_type ≡ t = keep.1 ∙ parts.1 in
+        rw (own, kind) (sym at)
+
 -- a part whose facility was found, and changed
 pub refitted_after : (before after : PartState) (s t : ℕ) (change : SpecialFacilityRow → SpecialFacilityRow) (row : SpecialFacilityRow) → facility_at before.book s t ≡ Some row
     → after ≡ changed_to before (facility_revised before.book s t change) after

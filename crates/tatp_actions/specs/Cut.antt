@@ -1,5 +1,6 @@
 -- A part that is cut in two, two parts that become one, and how many steps that takes.
 use Rattle.std.specs.Prelude.{◌≡◌, ℕ, ◌+◌, ◌==◌, ◌⊎◌, length, if◌then◌else◌}
+use Rattle.group_tree.specs.Groups.{IsHeightOfGroups}
 use Rattle.mr_cut.specs.Bounds.{most_of_slice, fewest_of_slice, most_of_meld, fewest_of_meld}
 use Rattle.mr_subtree.specs.Trees.{IsHeightOf}
 use Rattle.part_table.specs.declared.region.Side.{Side}
@@ -37,12 +38,13 @@ melded part other =
     if part.hi == other.lo then record part { book = join_books part.book other.book; hi = other.hi }
     else record part { book = join_books other.book part.book; lo = other.lo }
 
--- they are heights that trees with the rows of the book may have
+-- they are heights that trees with the rows of the book may have; those of the last three tables lie in groups of one
+-- to four rows
 pub record AreHeightsOf (heights : Heights) (book : Book) : Type 0 where
   pub subscribers : IsHeightOf heights.subscribers (length book.subscribers)
-  pub access : IsHeightOf heights.access (length book.access)
-  pub facilities : IsHeightOf heights.facilities (length book.facilities)
-  pub forwardings : IsHeightOf heights.forwardings (length book.forwardings)
+  pub access : IsHeightOfGroups heights.access (length book.access)
+  pub facilities : IsHeightOfGroups heights.facilities (length book.facilities)
+  pub forwardings : IsHeightOfGroups heights.forwardings (length book.forwardings)
 
 -- the most steps that the slice of a part takes
 abbrev pub slice_bound : Heights → ℕ

@@ -1,5 +1,7 @@
 -- Tables that are cut at a key or joined, and the trees that hold them: no clause of a public call cites these.
 use Rattle.std.specs.Prelude.{ℕ, ◌<◌, ◌≤◌, ◌++◌, List}
+use Rattle.group_tree.specs.Groups.{AreGroupsApart}
+use Rattle.group_tree.specs.Tables.{facility_span, subscriber_span}
 use Rattle.mr_cut.specs.Bounds.{blanks_for_slice, blanks_for_meld}
 use Rattle.mr_cut.specs.Cuts.{rows_below, rows_from, AreApart}
 use Rattle.part_table.specs.declared.region.Side.{Side}
@@ -42,6 +44,11 @@ abbrev pub AreApartAt : {X : Type 0} → Side → List (ℕ × X) → List (ℕ 
 AreApartAt Low rows others = AreApart others rows
 AreApartAt High rows others = AreApart rows others
 
+-- the same of pairs in groups: a key at which a group may begin parts them
+abbrev pub AreGroupsApartAt : {X : Type 0} → ℕ → Side → List (ℕ × X) → List (ℕ × X) → Type 0
+AreGroupsApartAt span Low rows others = AreGroupsApart span others rows
+AreGroupsApartAt span High rows others = AreGroupsApart span rows others
+
 -- pairs and others that stand on a side of them, in order
 abbrev pub joined_rows : {X : Type 0} → Side → List (ℕ × X) → List (ℕ × X) → List (ℕ × X)
 joined_rows Low rows others = others ++ rows
@@ -50,9 +57,9 @@ joined_rows High rows others = rows ++ others
 -- each of the four tables stands on a side of another one
 pub record TablesApartAt (side : Side) (tables others : Tables) : Type 0 where
   pub subscribers : AreApartAt side tables.subscribers others.subscribers
-  pub access : AreApartAt side tables.access others.access
-  pub facilities : AreApartAt side tables.facilities others.facilities
-  pub forwardings : AreApartAt side tables.forwardings others.forwardings
+  pub access : AreGroupsApartAt subscriber_span side tables.access others.access
+  pub facilities : AreGroupsApartAt subscriber_span side tables.facilities others.facilities
+  pub forwardings : AreGroupsApartAt facility_span side tables.forwardings others.forwardings
 
 -- the pairs of both, table by table
 abbrev pub joined_tables : Side → Tables → Tables → Tables

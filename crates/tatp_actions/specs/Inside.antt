@@ -1,10 +1,11 @@
 -- What calls inside the crate promise, and what a change is seen as.
-use Rattle.std.specs.Prelude.{◌≡◌, ◌≢◌, ◌⊎◌, ℕ, ◌+◌, ◌<◌, ◌≤◌, ◌==◌, ◌&&◌, nat_le, nat_lt, Bool, true, false, List, [], ◌∷◌, ◌++◌, length, Option, Some, None, option_map, ℤ, pos, negsuc, neg_ℤ, ◌+ℤ◌, ◌≤ℤ◌, Result, Ok, Err, if◌then◌else◌}
-use Rattle.std.specs.List.{AllByRecursion}
+use Rattle.std.specs.Prelude.{◌≡◌, ◌≢◌, ◌⊎◌, ℕ, ◌+◌, ◌<◌, ◌≤◌, ◌==◌, ◌&&◌, nat_le, nat_lt, Bool, true, false, List, [], ◌∷◌, ◌++◌, length, map, Option, Some, None, option_map, ℤ, pos, negsuc, neg_ℤ, ◌+ℤ◌, ◌≤ℤ◌, Result, Ok, Err, if◌then◌else◌}
+use Rattle.std.specs.List.{AllByRecursion, filter}
 use Rattle.std.specs.Option.{option_map_or, unwrap_or}
 use Rattle.tatp_rows.specs.Rows.{SubscriberRow, SpecialFacilityRow, CallForwardingRow, subscriber_in_range, facility_in_range}
 use Rattle.tatp_rows.specs.declared.refusal.Refusal.{Refusal}
 use Rattle.tatp_rows.specs.declared.refusal.Refusal.TheVariants as refusal
+use Rattle.row_groups.specs.Groups.{is_in_time}
 use Rattle.tatp_actions.specs.Action.{takes_call}
 use Rattle.tatp_actions.specs.Book.{Book, subscriber_at, facility_at, put_subscriber, put_facility}
 use Rattle.tatp_actions.specs.Cell.{covers}
@@ -26,6 +27,11 @@ destination s_id sf_type start_time end_time (Some row) = if takes_call s_id sf_
 abbrev pub number_in_time : ℕ → ℕ → ℕ → Option CallForwardingRow → Option ℕ
 number_in_time hour start_time end_time None = None
 number_in_time hour start_time end_time (Some row) = if nat_le hour start_time && nat_lt end_time row.end_time then Some row.numberx else None
+
+-- the numbers of the forwardings of a group that was found that start by one hour and end after another
+abbrev pub numbers_in : ℕ → ℕ → Option (List CallForwardingRow) → List ℕ
+numbers_in start_time end_time None = []
+numbers_in start_time end_time (Some group) = map (λ row. row.numberx) (filter (is_in_time start_time end_time) group)
 
 -- the part, asked once more
 abbrev pub asked_once : PartState → PartState

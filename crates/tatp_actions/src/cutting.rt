@@ -1,9 +1,11 @@
 //! The cut of a part in two, and the join of two parts.
 ghost use Rattle.std.specs.Prelude.{◌≡◌, ◌<◌, ◌≤◌, ℕ, [], Err, IfOk, IfErr, OnOk, OnErr};
+ghost use Rattle.group_tree.specs.Groups.{IsBase};
+ghost use Rattle.group_tree.specs.Tables.{subscriber_span};
 ghost use Rattle.mr_cut.specs.Bounds.{most_of_slice, fewest_of_slice, most_of_meld, fewest_of_meld};
 ghost use Rattle.tatp_actions.specs.Book.{empty_book};
 ghost use Rattle.tatp_actions.specs.Cut.{given_part, kept_part, melded, Touch, AreHeightsOf, slice_bound, slice_least, meld_bound, meld_least};
-ghost use Rattle.tatp_actions.specs.CutTables.{AreApartAt, kept_rows, given_rows, joined_rows, kept_tables, given_tables, joined_tables, TablesApartAt, tables_of, heights_of, IsForSlice, IsForMeld, AreForSlice, AreForMeld};
+ghost use Rattle.tatp_actions.specs.CutTables.{AreApartAt, AreGroupsApartAt, kept_rows, given_rows, joined_rows, kept_tables, given_tables, joined_tables, TablesApartAt, tables_of, heights_of, IsForSlice, IsForMeld, AreForSlice, AreForMeld};
 ghost use Rattle.tatp_actions.specs.Heights.{zero_heights};
 ghost use Rattle.tatp_actions.specs.Part.{IsPart};
 ghost use Rattle.tatp_actions.specs.Tables.{empty_tables};
@@ -11,6 +13,7 @@ ghost use Rattle.tatp_actions.specs.Tables.{empty_tables};
 use crate::part::Part;
 use crate::stocks::Stocks;
 use crate::trees::Trees;
+use group_tree::{Group, GroupTree, Row};
 use mr_cut::{meld_from, slice_into};
 use mr_node::Stock;
 use mr_subtree::SubTree;
@@ -43,9 +46,34 @@ fn cut_tree<V: Drop + Default>(
     }
 }
 
+/// Cuts a tree of groups at a key at which a group may begin, as `cut_tree` does. No group is cut.
+fn cut_groups<R: Row, G: Group<R>>(
+    tree: &mut GroupTree<R, G>,
+    given: &mut GroupTree<R, G>,
+    side: Side,
+    key: u64,
+    mut stock: Stock<G>,
+) -> u64
+    requires key { IsBase G.span key }
+    requires stock { IsForSlice tree.old.height stock }
+    ensures kept { tree.new.rows ≡ kept_rows side key tree.old.rows }
+    ensures given { given.new.rows ≡ given_rows side key tree.old.rows }
+    ensures steps { result ≤ most_of_slice tree.old.height }
+    ensures no_fewer { fewest_of_slice tree.old.height ≤ result }
+{
+    let (steps, _) = tree.slice_into(given, key, &mut stock);
+    match side {
+        Side::Low => {
+            exchange(tree, given);
+            steps
+        }
+        Side::High => steps,
+    }
+}
+
 /// Exchanges two trees. The function is not inlined, so that no tree is on the stack of a cut or a join.
 #[inline(never)]
-fn exchange<V: Drop>(one: &mut SubTree<V>, two: &mut SubTree<V>)
+fn exchange<T: Drop>(one: &mut T, two: &mut T)
     ensures one { one.new ≡ two.old }
     ensures two { two.new ≡ one.old }
 {
@@ -78,11 +106,37 @@ fn join_tree<V: Drop + Default>(
     }
 }
 
+/// Joins a tree of groups with another one, whose groups all lie behind or all lie in front, as `join_tree` does.
+fn join_groups<R: Row, G: Group<R>>(
+    tree: &mut GroupTree<R, G>,
+    other: &mut GroupTree<R, G>,
+    side: Side,
+    mut stock: Stock<G>,
+) -> u64
+    requires apart { AreGroupsApartAt G.span side tree.old.rows other.old.rows }
+    requires stock { IsForMeld tree.old.height other.old.height stock }
+    ensures rows { tree.new.rows ≡ joined_rows side tree.old.rows other.old.rows }
+    ensures other { other.new.rows ≡ [] }
+    ensures other_height { other.new.height ≡ 0 }
+    ensures steps { result ≤ most_of_meld tree.old.height other.old.height }
+    ensures no_fewer { fewest_of_meld tree.old.height other.old.height ≤ result }
+{
+    match side {
+        Side::Low => {
+            let steps = other.meld_from(tree, &mut stock);
+            exchange(tree, other);
+            steps
+        }
+        Side::High => tree.meld_from(other, &mut stock),
+    }
+}
+
 impl Trees {
-    /// Cuts the trees at a key. They keep one side, and the side that is named goes into other trees, which were not
-    /// asked yet. It returns how many steps it took.
+    /// Cuts the trees at a key between two subscribers. They keep one side, and the side that is named goes into other
+    /// trees, which were not asked yet. It returns how many steps it took.
     fn cut_into(&mut self, given: &mut Trees, side: Side, key: u64, stocks: Stocks) -> u64
-        requires { AreForSlice (heights_of self.old) stocks }
+        requires key { IsBase subscriber_span key }
+        requires stocks { AreForSlice (heights_of self.old) stocks }
         ensures kept { tables_of self.new ≡ kept_tables side key (tables_of self.old) }
         ensures given { tables_of given.new ≡ given_tables side key (tables_of self.old) }
         ensures asked { self.new.asked ≡ self.old.asked }
@@ -103,15 +157,15 @@ impl Trees {
             side,
             key,
             subscribers,
-        ) + cut_tree(&mut self.access, &mut given.access, side, key, access)
-            + cut_tree(
+        ) + cut_groups(&mut self.access, &mut given.access, side, key, access)
+            + cut_groups(
                 &mut self.facilities,
                 &mut given.facilities,
                 side,
                 key,
                 facilities,
             )
-            + cut_tree(
+            + cut_groups(
                 &mut self.forwardings,
                 &mut given.forwardings,
                 side,
@@ -143,14 +197,14 @@ impl Trees {
             &mut other.subscribers,
             side,
             subscribers,
-        ) + join_tree(&mut self.access, &mut other.access, side, access)
-            + join_tree(
+        ) + join_groups(&mut self.access, &mut other.access, side, access)
+            + join_groups(
                 &mut self.facilities,
                 &mut other.facilities,
                 side,
                 facilities,
             )
-            + join_tree(
+            + join_groups(
                 &mut self.forwardings,
                 &mut other.forwardings,
                 side,

@@ -37,7 +37,7 @@ impl<R: Rows> Part<R> {
         ensures kept { self.new ≡ asked_once self.old }
         ensures rules { IsPart self.old }
     {
-        self.rows.get_a(row_key(s_id, ai_type, 0)).copied()
+        self.rows.get_a(row_key(s_id, ai_type, 0))
     }
 
     /// Returns the Special_Facility row of a subscriber's facility.
@@ -46,7 +46,7 @@ impl<R: Rows> Part<R> {
         ensures kept { self.new ≡ asked_once self.old }
         ensures rules { IsPart self.old }
     {
-        self.rows.get_f(row_key(s_id, sf_type, 0)).copied()
+        self.rows.get_f(row_key(s_id, sf_type, 0))
     }
 
     /// Returns whether a subscriber has an active facility of a type.
@@ -69,7 +69,7 @@ impl<R: Rows> Part<R> {
         ensures kept { self.new ≡ asked_once self.old }
         ensures rules { IsPart self.old }
     {
-        self.rows.get_c(row_key(s_id, sf_type, start_time)).copied()
+        self.rows.get_c(row_key(s_id, sf_type, start_time))
     }
 
     /// Changes the Subscriber row of a subscriber where it lies, into one of the same subscriber. It returns false if
@@ -131,7 +131,9 @@ impl<R: Rows> Part<R> {
         ensures added { IsAdded (is_some (access_at self.old.book row.s_id row.ai_type)) self.old.book (more_access self.old.book row) self.new.book result }
         ensures kept { self.new ≡ changed_once self.old self.new.book self.new.heights }
     {
-        if let Err(back) = self.rows.insert_a(row.key(), row) {
+        // For the prover: a row is in range, as its reader says.
+        let _s_id = row.s_id();
+        if let Err(back) = self.rows.insert_a(row) {
             return Err(back.why);
         }
         Ok(())
@@ -143,7 +145,9 @@ impl<R: Rows> Part<R> {
         ensures added { IsAdded (is_some (facility_at self.old.book row.s_id row.sf_type)) self.old.book (more_facilities self.old.book row) self.new.book result }
         ensures kept { self.new ≡ changed_once self.old self.new.book self.new.heights }
     {
-        if let Err(back) = self.rows.insert_f(row.key(), row) {
+        // For the prover: a row is in range, as its reader says.
+        let _s_id = row.s_id();
+        if let Err(back) = self.rows.insert_f(row) {
             return Err(back.why);
         }
         Ok(())
@@ -155,7 +159,9 @@ impl<R: Rows> Part<R> {
         ensures added { IsAdded (is_some (forwarding_at self.old.book row.s_id row.sf_type row.start_time)) self.old.book (more_forwardings self.old.book row) self.new.book result }
         ensures kept { self.new ≡ changed_once self.old self.new.book self.new.heights }
     {
-        if let Err(back) = self.rows.insert_c(row.key(), row) {
+        // For the prover: a row is in range, as its reader says.
+        let _s_id = row.s_id();
+        if let Err(back) = self.rows.insert_c(row) {
             return Err(back.why);
         }
         Ok(())

@@ -1,5 +1,5 @@
 //! Rows of a table from a key on, in key order, written into a list of the caller's: as many as there are, and as the
-//! list has room for. All four tables go through the same functions.
+//! list has room for. The tables whose rows lie in groups go through the same functions.
 ghost use Rattle.std.specs.Prelude.{◌≡◌, ◌+◌, ◌-◌, ◌<◌, ◌≤◌, ℕ, List, [], ◌++◌, length, map, min};
 ghost use Rattle.tatp_rows.specs.Rows.{SubscriberRow, AccessInfoRow, SpecialFacilityRow, CallForwardingRow};
 ghost use Rattle.tatp_rows.specs.Spans.{keys_from};
@@ -13,6 +13,7 @@ ghost use Rattle.tatp_actions.specs.Tables.{AreKeyed, Tables, stored_book, value
 
 use crate::part::Part;
 use arrayvec::ArrayVec;
+use group_tree::{Group, GroupTree, Row};
 use mr_subtree::SubTree;
 use tatp_rows::{Access, Facility, Forwarding, LAST_SUBSCRIBER, Subscriber, row_key};
 
@@ -100,8 +101,16 @@ impl TableRow for Access {
         rows: &mut [T],
         place: usize,
     ) -> usize {
+        let mut groups = ArrayVec::new();
         let mut page = ArrayVec::new();
-        write_from(&part.rows.access, from.packed(), &mut page, rows, place)
+        write_groups_from(
+            &part.rows.access,
+            from.packed(),
+            &mut groups,
+            &mut page,
+            rows,
+            place,
+        )
     }
 
     ghost use Rattle.std.specs.Prelude.{refl};
@@ -122,8 +131,16 @@ impl TableRow for Facility {
         rows: &mut [T],
         place: usize,
     ) -> usize {
+        let mut groups = ArrayVec::new();
         let mut page = ArrayVec::new();
-        write_from(&part.rows.facilities, from.packed(), &mut page, rows, place)
+        write_groups_from(
+            &part.rows.facilities,
+            from.packed(),
+            &mut groups,
+            &mut page,
+            rows,
+            place,
+        )
     }
 
     ghost use Rattle.std.specs.Prelude.{refl};
@@ -144,10 +161,12 @@ impl TableRow for Forwarding {
         rows: &mut [T],
         place: usize,
     ) -> usize {
+        let mut groups = ArrayVec::new();
         let mut page = ArrayVec::new();
-        write_from(
+        write_groups_from(
             &part.rows.forwardings,
             from.packed(),
+            &mut groups,
             &mut page,
             rows,
             place,
@@ -250,6 +269,37 @@ fn write_from<V: Copy + Default, T: FromRow<V>>(
         }
         from = pairs[pairs.len() - 1].0 + 1;
         behind = write_page(pairs, rows, behind);
+    }
+    behind
+}
+
+/// Writes the rows of a tree of groups, as `write_from` does. The groups of a leaf are found at a time, in a list that
+/// the caller has, and their rows in a page.
+fn write_groups_from<R: Row, G: Group<R>, T: FromRow<R>>(
+    tree: &GroupTree<R, G>,
+    key: u64,
+    groups: &mut ArrayVec<(u64, G), 32>,
+    page: &mut ArrayVec<(u64, R), 132>,
+    rows: &mut [T],
+    place: usize,
+) -> usize
+    requires room { place ≤ length rows.old }
+    requires ordered { IsOrderedBy key_of_pair tree.now.rows }
+    requires small { KeysBelow key_limit tree.now.rows }
+    ensures { AreWritten (map (λ pair. T.of_row pair.1) (keys_from key_of_pair key tree.now.rows)) place rows.old result rows.new }
+{
+    let mut from = key;
+    let mut behind = place;
+    while behind < rows.len() {
+        groups.clear();
+        page.clear();
+        tree.page_from(from, groups, page);
+        let found = page.as_slice();
+        if found.is_empty() {
+            return behind;
+        }
+        from = found[found.len() - 1].0 + 1;
+        behind = write_page(found, rows, behind);
     }
     behind
 }

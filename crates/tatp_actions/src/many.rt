@@ -1,15 +1,15 @@
 //! The rows and destinations of several subscribers, looked up with overlapping memory accesses.
-ghost use Rattle.std.specs.Prelude.{◌≡◌, ◌≤◌, [], length, map, nat_lt, None};
-ghost use Rattle.std.specs.List.{list_all};
+ghost use Rattle.std.specs.Prelude.{◌≡◌, ◌≤◌, [], length, map, if◌then◌else◌};
 ghost use Rattle.tatp_rows.specs.Keys.{key_of};
 ghost use Rattle.tatp_actions.specs.Action.{destinations};
-ghost use Rattle.tatp_actions.specs.Book.{subscriber_at, access_at, forwarding_at};
-ghost use Rattle.tatp_actions.specs.Inside.{destination};
+ghost use Rattle.tatp_actions.specs.Book.{subscriber_at, access_at, has_active};
+ghost use Rattle.tatp_actions.specs.Inside.{numbers_in};
 
-use crate::destinations::{number_of, numbers_of_active};
+use crate::destinations::{is_active, numbers_within};
 use crate::part::Part;
 use arrayvec::ArrayVec;
-use tatp_rows::{Access, Number, Subscriber, row_key, subscriber_key};
+use row_groups::Forwardings;
+use tatp_rows::{Access, Facility, Number, Subscriber, row_key, subscriber_key};
 
 /// Returns the keys of the Subscriber rows of these subscribers.
 fn subscriber_keys(s_ids: &[u32]) -> ArrayVec<u64, 16>
@@ -36,37 +36,33 @@ fn access_keys(asked: &[(u32, u8)]) -> ArrayVec<u64, 16>
     keys
 }
 
-/// Makes the keys of the forwardings of these calls' facilities that start at an hour. For hour 0, these are also the
-/// keys of the facilities.
-fn call_keys(asked: &[(u32, u8, u8, u8)], hour: u8) -> ArrayVec<u64, 16>
+/// Returns the keys of the facilities of these calls.
+fn call_keys(asked: &[(u32, u8, u8, u8)]) -> ArrayVec<u64, 16>
     requires { length asked.now ≤ 16 }
-    ensures { result.items ≡ map (λ q. key_of q.0 q.1 hour) asked.now }
+    ensures { result.items ≡ map (λ q. key_of q.0 q.1 0) asked.now }
 {
     let mut keys = ArrayVec::new();
     for place in 0..asked.len() {
         let (s_id, sf_type, _, _) = asked[place];
-        keys.push(row_key(s_id, sf_type, hour));
+        keys.push(row_key(s_id, sf_type, 0));
     }
     keys
 }
 
-/// Returns whether each of these calls starts before an hour.
-fn are_before(asked: &[(u32, u8, u8, u8)], hour: u8) -> bool
-    ensures { result ≡ list_all (λ q. nat_lt q.2 hour) asked.now }
+/// Returns the numbers of the forwardings of a group that take a call of these times, if the facility was found and is
+/// active, and none otherwise.
+fn numbers_of_active(
+    facility: Option<Facility>,
+    forwardings: &Option<Forwardings>,
+    start_time: u8,
+    end_time: u8,
+) -> ArrayVec<Number, 3>
+    ensures { result.items ≡ (if has_active facility then numbers_in start_time end_time forwardings.now else []) }
 {
-    asked.iter().all(|call| call.2 < hour)
-}
-
-/// Returns a list with `None` for each of these calls.
-fn no_numbers(asked: &[(u32, u8, u8, u8)]) -> ArrayVec<Option<Number>, 16>
-    requires { length asked.now ≤ 16 }
-    ensures { result.items ≡ map (λ q. None) asked.now }
-{
-    let mut numbers = ArrayVec::new();
-    for _ in 0..asked.len() {
-        numbers.push(None);
+    if !is_active(facility) {
+        return ArrayVec::new();
     }
-    numbers
+    numbers_within(forwardings.as_ref(), start_time, end_time)
 }
 
 impl Part {
@@ -89,34 +85,15 @@ impl Part {
         ensures { rows.new.items ≡ map (λ a. access_at self.now.book a.0 a.1) asked.now }
     {
         let keys = access_keys(asked);
-        self.rows.access.copy_many(keys.as_slice(), rows);
-    }
-
-    /// Finds the numbers of the forwardings that start at an hour and take these calls, with `None` for a call that
-    /// none takes. If each call starts before the hour, no row is looked up.
-    fn hour_numbers(&self, asked: &[(u32, u8, u8, u8)], hour: u8) -> ArrayVec<Option<Number>, 16>
-        requires { length asked.now ≤ 16 }
-        ensures { result.items ≡ map (λ q. destination q.0 q.1 q.2 q.3 (forwarding_at self.now.book q.0 q.1 hour)) asked.now }
-    {
-        if are_before(asked, hour) {
-            return no_numbers(asked);
-        }
-        let keys = call_keys(asked, hour);
-        let mut rows = ArrayVec::new();
-        self.rows.forwardings.copy_many(keys.as_slice(), &mut rows);
-        let found = rows.as_slice();
-        let mut numbers = ArrayVec::new();
-        for place in 0..asked.len() {
-            // Reads the type for the prover: it fits a byte.
-            let (_, _sf_type, start_time, end_time) = asked[place];
-            numbers.push(number_of(found[place], hour, start_time, end_time));
-        }
-        numbers
+        let mut groups = ArrayVec::new();
+        self.rows
+            .access
+            .copy_many(keys.as_slice(), &mut groups, rows);
     }
 
     /// Puts the numbers to which up to 16 calls are forwarded into an empty list, as `destinations` returns them, in
-    /// the order of the queries. Each call is asked for by its s_id, sf_type, start_time and end_time. The rows are
-    /// looked up with overlapping memory accesses.
+    /// the order of the queries. Each call is asked for by its s_id, sf_type, start_time and end_time. The facilities and
+    /// the groups of forwardings are looked up with overlapping memory accesses.
     pub fn copy_destinations(
         &self,
         asked: &[(u32, u8, u8, u8)],
@@ -126,20 +103,24 @@ impl Part {
         requires empty { found.old.items ≡ [] }
         ensures { found.new.items ≡ map (λ q. record { items = destinations self.now.book q.0 q.1 q.2 q.3 }) asked.now }
     {
-        let keys = call_keys(asked, 0);
+        let keys = call_keys(asked);
+        let mut groups = ArrayVec::new();
         let mut facilities = ArrayVec::new();
         self.rows
             .facilities
-            .copy_many(keys.as_slice(), &mut facilities);
-        let first = self.hour_numbers(asked, 0);
-        let second = self.hour_numbers(asked, 8);
-        let third = self.hour_numbers(asked, 16);
+            .copy_many(keys.as_slice(), &mut groups, &mut facilities);
+        let mut forwardings = ArrayVec::new();
+        self.rows
+            .forwardings
+            .copy_groups(keys.as_slice(), &mut forwardings);
         for place in 0..asked.len() {
+            // Reads the type for the prover: it fits a byte.
+            let (_, _sf_type, start_time, end_time) = asked[place];
             found.push(numbers_of_active(
                 facilities.as_slice()[place],
-                first.as_slice()[place],
-                second.as_slice()[place],
-                third.as_slice()[place],
+                &forwardings.as_slice()[place],
+                start_time,
+                end_time,
             ));
         }
     }

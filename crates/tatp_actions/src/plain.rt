@@ -77,19 +77,19 @@ impl Rows for PlainRows {
         self.subscribers.remove(key)
     }
 
-    fn get_a(&mut self, key: u64) -> Option<&Access> {
+    fn get_a(&mut self, key: u64) -> Option<Access> {
         self.ask();
-        self.access.get(key)
+        self.access.get(key).copied()
     }
 
-    fn replace_a(&mut self, key: u64, value: Access) -> Result<Access, Access> {
+    fn replace_a(&mut self, row: Access) -> Result<Access, Access> {
         self.ask();
-        self.access.replace(key, value)
+        self.access.replace(row.key(), row)
     }
 
-    fn insert_a(&mut self, key: u64, value: Access) -> Result<(), Back<Access>> {
+    fn insert_a(&mut self, row: Access) -> Result<(), Back<Access>> {
         self.ask();
-        self.access.insert(key, value)
+        self.access.insert(row.key(), row)
     }
 
     fn remove_a(&mut self, key: u64) -> Option<Access> {
@@ -97,19 +97,19 @@ impl Rows for PlainRows {
         self.access.remove(key)
     }
 
-    fn get_f(&mut self, key: u64) -> Option<&Facility> {
+    fn get_f(&mut self, key: u64) -> Option<Facility> {
         self.ask();
-        self.facilities.get(key)
+        self.facilities.get(key).copied()
     }
 
-    fn replace_f(&mut self, key: u64, value: Facility) -> Result<Facility, Facility> {
+    fn replace_f(&mut self, row: Facility) -> Result<Facility, Facility> {
         self.ask();
-        self.facilities.replace(key, value)
+        self.facilities.replace(row.key(), row)
     }
 
-    fn insert_f(&mut self, key: u64, value: Facility) -> Result<(), Back<Facility>> {
+    fn insert_f(&mut self, row: Facility) -> Result<(), Back<Facility>> {
         self.ask();
-        self.facilities.insert(key, value)
+        self.facilities.insert(row.key(), row)
     }
 
     fn remove_f(&mut self, key: u64) -> Option<Facility> {
@@ -117,19 +117,19 @@ impl Rows for PlainRows {
         self.facilities.remove(key)
     }
 
-    fn get_c(&mut self, key: u64) -> Option<&Forwarding> {
+    fn get_c(&mut self, key: u64) -> Option<Forwarding> {
         self.ask();
-        self.forwardings.get(key)
+        self.forwardings.get(key).copied()
     }
 
-    fn replace_c(&mut self, key: u64, value: Forwarding) -> Result<Forwarding, Forwarding> {
+    fn replace_c(&mut self, row: Forwarding) -> Result<Forwarding, Forwarding> {
         self.ask();
-        self.forwardings.replace(key, value)
+        self.forwardings.replace(row.key(), row)
     }
 
-    fn insert_c(&mut self, key: u64, value: Forwarding) -> Result<(), Back<Forwarding>> {
+    fn insert_c(&mut self, row: Forwarding) -> Result<(), Back<Forwarding>> {
         self.ask();
-        self.forwardings.insert(key, value)
+        self.forwardings.insert(row.key(), row)
     }
 
     fn remove_c(&mut self, key: u64) -> Option<Forwarding> {

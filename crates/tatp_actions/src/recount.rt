@@ -8,7 +8,8 @@ ghost use Rattle.tatp_actions.specs.Recount.{one_more_in, one_more_from, with_ro
 
 use crate::cells::{CELLS, Cells, FIRST_AREA, FIRST_ZONE};
 use crate::part::Part;
-use mr_subtree::SubTree;
+use group_tree::GroupTree;
+use row_groups::Facilities;
 use std::marker::Model;
 use tatp_rows::{
     Facility, Forwarding, LAST_SUBSCRIBER, Subscriber, area, row_key, subscriber_key, zone,
@@ -20,7 +21,7 @@ use tatp_rows::{
 #[derive(Drop)]
 pub(crate) struct Tally<'a> {
     cells: Cells,
-    facilities: &'a SubTree<Facility>,
+    facilities: &'a GroupTree<Facility, Facilities>,
     width: u32,
     s_id: u32,
     zone: u8,
@@ -61,7 +62,7 @@ fn count_hours(cells: &mut Cells, from: u8, to: u8)
 }
 
 /// Returns whether there is a facility at a key, and it is active.
-fn is_active(facilities: &SubTree<Facility>, key: u64) -> bool
+fn is_active(facilities: &GroupTree<Facility, Facilities>, key: u64) -> bool
     ensures { result ≡ is_active_at key facilities.now.rows }
 {
     match facilities.get(key) {
@@ -72,7 +73,7 @@ fn is_active(facilities: &SubTree<Facility>, key: u64) -> bool
 
 impl<'a> Tally<'a> {
     /// Makes a tally in which no row is counted yet.
-    pub(crate) fn zero(facilities: &'a SubTree<Facility>, width: u32) -> Self
+    pub(crate) fn zero(facilities: &'a GroupTree<Facility, Facilities>, width: u32) -> Self
         ensures { result ≡ record { cells = replicate CELLS 0; facilities = facilities.now.rows; width = width } }
     {
         Tally {

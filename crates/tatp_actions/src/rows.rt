@@ -1,7 +1,8 @@
 //! The calls that a part makes on its rows.
-ghost use Rattle.std.specs.Prelude.{◌≡◌, ℕ, ◌+◌, ◌<◌, ◌≤◌, is_some, option_copied, ok_or, ⊤};
+ghost use Rattle.std.specs.Prelude.{◌≡◌, ℕ, ◌+◌, ◌<◌, ◌≤◌, IfSome, is_some, option_copied, ok_or, ⊤};
 ghost use Rattle.std.specs.Borrow.{sem, follows_so};
 ghost use mathlib.Core.Option.{none};
+ghost use Rattle.tatp_rows.specs.Keys.{access_key, facility_key, forwarding_key};
 ghost use Rattle.tatp_rows.specs.Ordered.{with_row_at, without_row};
 ghost use Rattle.mr_node.specs.Rows.{key_limit, key_of_pair, value_at};
 ghost use Rattle.mr_node.specs.Revisions.{revised_at, spent_at};
@@ -19,9 +20,10 @@ use tatp_rows::{Access, Back, Facility, Forwarding, Subscriber};
 /// it asks. A store needs to have only sixteen calls: where it has no better way, those two are made of two of the
 /// others each.
 ///
-/// `heights` is the height of the trees that hold the rows. A call that reads doesn't change it. A read lends its row,
+/// `heights` is the height of the trees that hold the rows. A call that reads doesn't change it. `get_s` lends its row,
 /// so its clause `after` says what it leaves, which is the same tables, asked once more, for the time when the row is
-/// given back.
+/// given back. A row of the other three tables may lie in a group with others, without the fields that they share, so
+/// it is returned as a value, and is stored at its own key.
 pub trait Rows {
     ghost tables: { Self → Tables };
 
@@ -77,24 +79,24 @@ pub trait Rows {
         ensures rows { tables self.new ≡ record (tables self.old) { subscribers = without_row key_of_pair key (tables self.old).subscribers } }
         ensures asked { times_asked self.new ≡ once_more (times_asked self.old) };
 
-    /// Finds the Access_Info row at a key.
-    fn get_a(&mut self, key: u64) -> Option<&Access>
-        ensures* after { sem 𝓛 (follows_so Self.row Self.row self.entry.ghost_name none (λ _ _. ⊤)
-            (λ rows. (tables rows ≡ tables self.old) × (times_asked rows ≡ once_more (times_asked self.old))
-            × (heights rows ≡ heights self.old))) }
-        ensures value { option_copied result ≡ value_at key (tables self.old).access };
+    /// Returns the Access_Info row at a key.
+    fn get_a(&mut self, key: u64) -> Option<Access>
+        ensures value { result ≡ value_at key (tables self.old).access }
+        ensures rows { tables self.new ≡ tables self.old }
+        ensures asked { times_asked self.new ≡ once_more (times_asked self.old) }
+        ensures heights { heights self.new ≡ heights self.old };
 
-    /// Replaces the Access_Info row at a key, and hands back the old one; if there is none, hands back the value.
-    fn replace_a(&mut self, key: u64, value: Access) -> Result<Access, Access>
-        ensures value { result ≡ ok_or (value_at key (tables self.old).access) value }
-        ensures rows { tables self.new ≡ record (tables self.old) { access = with_row_at key_of_pair key (key, value) (tables self.old).access } }
+    /// Replaces the Access_Info row with the key of this one, and hands back the old one; if there is none, hands back this
+    /// one.
+    fn replace_a(&mut self, row: Access) -> Result<Access, Access>
+        ensures value { result ≡ ok_or (value_at (access_key row) (tables self.old).access) row }
+        ensures rows { tables self.new ≡ record (tables self.old) { access = with_row_at key_of_pair (access_key row) (access_key row, row) (tables self.old).access } }
         ensures asked { times_asked self.new ≡ once_more (times_asked self.old) };
 
-    /// Adds an Access_Info row. Its refusals, in order, are `Exists` if the key has a row, and `Memory` if the system
+    /// Adds an Access_Info row. Its refusals, in order, are `Exists` if its key has a row, and `Memory` if the system
     /// refuses memory, and then the rows are as before, and the row is handed back.
-    fn insert_a(&mut self, key: u64, value: Access) -> Result<(), Back<Access>>
-        requires { key < key_limit }
-        ensures table { IsInserted key value (tables self.old).access (tables self.new).access result }
+    fn insert_a(&mut self, row: Access) -> Result<(), Back<Access>>
+        ensures table { IsInserted (access_key row) row (tables self.old).access (tables self.new).access result }
         ensures others { tables self.new ≡ record (tables self.old) { access = (tables self.new).access } }
         ensures asked { times_asked self.new ≡ once_more (times_asked self.old) };
 
@@ -104,41 +106,42 @@ pub trait Rows {
         ensures rows { tables self.new ≡ record (tables self.old) { access = without_row key_of_pair key (tables self.old).access } }
         ensures asked { times_asked self.new ≡ once_more (times_asked self.old) };
 
-    /// Finds the Special_Facility row at a key.
-    fn get_f(&mut self, key: u64) -> Option<&Facility>
-        ensures* after { sem 𝓛 (follows_so Self.row Self.row self.entry.ghost_name none (λ _ _. ⊤)
-            (λ rows. (tables rows ≡ tables self.old) × (times_asked rows ≡ once_more (times_asked self.old))
-            × (heights rows ≡ heights self.old))) }
-        ensures value { option_copied result ≡ value_at key (tables self.old).facilities };
+    /// Returns the Special_Facility row at a key.
+    fn get_f(&mut self, key: u64) -> Option<Facility>
+        ensures value { result ≡ value_at key (tables self.old).facilities }
+        ensures rows { tables self.new ≡ tables self.old }
+        ensures asked { times_asked self.new ≡ once_more (times_asked self.old) }
+        ensures heights { heights self.new ≡ heights self.old };
 
-    /// Replaces the Special_Facility row at a key, and hands back the old one; if there is none, hands back the value.
-    fn replace_f(&mut self, key: u64, value: Facility) -> Result<Facility, Facility>
-        ensures value { result ≡ ok_or (value_at key (tables self.old).facilities) value }
-        ensures rows { tables self.new ≡ record (tables self.old) { facilities = with_row_at key_of_pair key (key, value) (tables self.old).facilities } }
+    /// Replaces the Special_Facility row with the key of this one, and hands back the old one; if there is none, hands back this
+    /// one.
+    fn replace_f(&mut self, row: Facility) -> Result<Facility, Facility>
+        ensures value { result ≡ ok_or (value_at (facility_key row) (tables self.old).facilities) row }
+        ensures rows { tables self.new ≡ record (tables self.old) { facilities = with_row_at key_of_pair (facility_key row) (facility_key row, row) (tables self.old).facilities } }
         ensures asked { times_asked self.new ≡ once_more (times_asked self.old) };
 
-    /// Changes the Special_Facility row at a key where it lies, and returns false if there is none. It may ask twice,
-    /// because the default calls `get_f` and `replace_f`.
+    /// Changes the Special_Facility row at a key, which keeps its key, where it lies, and returns false if there is none.
+    /// It may ask twice, because the default calls `get_f` and `replace_f`.
     fn revise_f<E: Revise<Facility>>(&mut self, key: u64, revision: &mut E) -> bool
+        requires { IfSome (value_at key (tables self.old).facilities) (λ row. facility_key (E.revised revision.old row) ≡ key) }
         ensures rows { tables self.new ≡ record (tables self.old) { facilities = revised_at key (E.revised revision.old) (tables self.old).facilities } }
         ensures spent { revision.new ≡ spent_at key E.spent revision.old (tables self.old).facilities }
         ensures found { result ≡ is_some (value_at key (tables self.old).facilities) }
         ensures counted { once_more (times_asked self.old) ≤ times_asked self.new }
         ensures asked { times_asked self.new ≤ times_asked self.old + 2 }
     {
-        let Some(mut row) = self.get_f(key).copied() else {
+        let Some(mut row) = self.get_f(key) else {
             return false;
         };
         revision.revise(&mut row);
-        let _ = self.replace_f(key, row);
+        let _ = self.replace_f(row);
         true
     }
 
-    /// Adds a Special_Facility row. Its refusals, in order, are `Exists` if the key has a row, and `Memory` if the
-    /// system refuses memory, and then the rows are as before, and the row is handed back.
-    fn insert_f(&mut self, key: u64, value: Facility) -> Result<(), Back<Facility>>
-        requires { key < key_limit }
-        ensures table { IsInserted key value (tables self.old).facilities (tables self.new).facilities result }
+    /// Adds a Special_Facility row. Its refusals, in order, are `Exists` if its key has a row, and `Memory` if the system
+    /// refuses memory, and then the rows are as before, and the row is handed back.
+    fn insert_f(&mut self, row: Facility) -> Result<(), Back<Facility>>
+        ensures table { IsInserted (facility_key row) row (tables self.old).facilities (tables self.new).facilities result }
         ensures others { tables self.new ≡ record (tables self.old) { facilities = (tables self.new).facilities } }
         ensures asked { times_asked self.new ≡ once_more (times_asked self.old) };
 
@@ -148,24 +151,24 @@ pub trait Rows {
         ensures rows { tables self.new ≡ record (tables self.old) { facilities = without_row key_of_pair key (tables self.old).facilities } }
         ensures asked { times_asked self.new ≡ once_more (times_asked self.old) };
 
-    /// Finds the Call_Forwarding row at a key.
-    fn get_c(&mut self, key: u64) -> Option<&Forwarding>
-        ensures* after { sem 𝓛 (follows_so Self.row Self.row self.entry.ghost_name none (λ _ _. ⊤)
-            (λ rows. (tables rows ≡ tables self.old) × (times_asked rows ≡ once_more (times_asked self.old))
-            × (heights rows ≡ heights self.old))) }
-        ensures value { option_copied result ≡ value_at key (tables self.old).forwardings };
+    /// Returns the Call_Forwarding row at a key.
+    fn get_c(&mut self, key: u64) -> Option<Forwarding>
+        ensures value { result ≡ value_at key (tables self.old).forwardings }
+        ensures rows { tables self.new ≡ tables self.old }
+        ensures asked { times_asked self.new ≡ once_more (times_asked self.old) }
+        ensures heights { heights self.new ≡ heights self.old };
 
-    /// Replaces the Call_Forwarding row at a key, and hands back the old one; if there is none, hands back the value.
-    fn replace_c(&mut self, key: u64, value: Forwarding) -> Result<Forwarding, Forwarding>
-        ensures value { result ≡ ok_or (value_at key (tables self.old).forwardings) value }
-        ensures rows { tables self.new ≡ record (tables self.old) { forwardings = with_row_at key_of_pair key (key, value) (tables self.old).forwardings } }
+    /// Replaces the Call_Forwarding row with the key of this one, and hands back the old one; if there is none, hands back this
+    /// one.
+    fn replace_c(&mut self, row: Forwarding) -> Result<Forwarding, Forwarding>
+        ensures value { result ≡ ok_or (value_at (forwarding_key row) (tables self.old).forwardings) row }
+        ensures rows { tables self.new ≡ record (tables self.old) { forwardings = with_row_at key_of_pair (forwarding_key row) (forwarding_key row, row) (tables self.old).forwardings } }
         ensures asked { times_asked self.new ≡ once_more (times_asked self.old) };
 
-    /// Adds a Call_Forwarding row. Its refusals, in order, are `Exists` if the key has a row, and `Memory` if the
-    /// system refuses memory, and then the rows are as before, and the row is handed back.
-    fn insert_c(&mut self, key: u64, value: Forwarding) -> Result<(), Back<Forwarding>>
-        requires { key < key_limit }
-        ensures table { IsInserted key value (tables self.old).forwardings (tables self.new).forwardings result }
+    /// Adds a Call_Forwarding row. Its refusals, in order, are `Exists` if its key has a row, and `Memory` if the system
+    /// refuses memory, and then the rows are as before, and the row is handed back.
+    fn insert_c(&mut self, row: Forwarding) -> Result<(), Back<Forwarding>>
+        ensures table { IsInserted (forwarding_key row) row (tables self.old).forwardings (tables self.new).forwardings result }
         ensures others { tables self.new ≡ record (tables self.old) { forwardings = (tables self.new).forwardings } }
         ensures asked { times_asked self.new ≡ once_more (times_asked self.old) };
 

@@ -1,6 +1,5 @@
 //! The blank nodes that a cut or a join of the four trees uses, all of them taken ahead.
-ghost use Rattle.std.specs.Prelude.{◌≡◌, MatchResult, OnOk, length};
-ghost use Rattle.mr_subtree.specs.Trees.{IsHeightOf};
+ghost use Rattle.std.specs.Prelude.{◌≡◌, ◌<◌, MatchResult, OnOk};
 ghost use Rattle.tatp_actions.specs.Cut.{AreHeightsOf};
 ghost use Rattle.tatp_actions.specs.CutTables.{AreForSlice, AreForMeld, IsForMeld, tables_of, heights_of};
 ghost use Rattle.tatp_actions.specs.Tables.{stored_book};
@@ -8,17 +7,17 @@ ghost use Rattle.tatp_actions.specs.Tables.{stored_book};
 use crate::trees::Trees;
 use mr_cut::{stock_for_meld, stock_for_slice};
 use mr_node::Stock;
-use mr_subtree::SubTree;
+use row_groups::{Accesses, Facilities, Forwardings};
 use std::alloc::Global;
-use tatp_rows::{Access, Facility, Forwarding, Refusal, Subscriber};
+use tatp_rows::{Refusal, Subscriber};
 
 /// Blank nodes for each of the four trees.
 #[derive(Drop)]
 pub(crate) struct Stocks {
     pub(crate) subscribers: Stock<Subscriber>,
-    pub(crate) access: Stock<Access>,
-    pub(crate) facilities: Stock<Facility>,
-    pub(crate) forwardings: Stock<Forwarding>,
+    pub(crate) access: Stock<Accesses>,
+    pub(crate) facilities: Stock<Facilities>,
+    pub(crate) forwardings: Stock<Forwardings>,
 }
 
 impl Stocks {
@@ -42,23 +41,24 @@ impl Stocks {
         ensures other_heights { OnOk result (AreHeightsOf (heights_of other.now) (stored_book (tables_of other.now))) }
     {
         Ok(Stocks {
-            subscribers: meld_stock(alloc, &rows.subscribers, &other.subscribers)?,
-            access: meld_stock(alloc, &rows.access, &other.access)?,
-            facilities: meld_stock(alloc, &rows.facilities, &other.facilities)?,
-            forwardings: meld_stock(alloc, &rows.forwardings, &other.forwardings)?,
+            subscribers: meld_stock(alloc, rows.subscribers.height(), other.subscribers.height())?,
+            access: meld_stock(alloc, rows.access.height(), other.access.height())?,
+            facilities: meld_stock(alloc, rows.facilities.height(), other.facilities.height())?,
+            forwardings: meld_stock(alloc, rows.forwardings.height(), other.forwardings.height())?,
         })
     }
 }
 
-/// Takes the blank nodes for a meld of two trees. It returns `Memory` if the system refuses memory for them.
+/// Takes the blank nodes for a meld of two trees of these heights. It returns `Memory` if the system refuses memory for
+/// them.
 fn meld_stock<V: Drop + Default>(
     alloc: Global,
-    tree: &SubTree<V>,
-    other: &SubTree<V>,
+    height: u64,
+    other: u64,
 ) -> Result<Stock<V>, Refusal>
-    ensures stock { MatchResult result (λ stock. IsForMeld tree.now.height other.now.height stock) (λ why. why ≡ Refusal.Memory) }
-    ensures height { IsHeightOf tree.now.height (length tree.now.rows) }
-    ensures other_height { IsHeightOf other.now.height (length other.now.rows) }
+    requires low { height < 16 }
+    requires other_low { other < 16 }
+    ensures { MatchResult result (λ stock. IsForMeld height other stock) (λ why. why ≡ Refusal.Memory) }
 {
-    stock_for_meld(alloc, tree.height(), other.height())
+    stock_for_meld(alloc, height, other)
 }

@@ -7,8 +7,9 @@ use super::*;
 use crate::plain::PlainRows;
 use crate::recount::Tally;
 use crate::revisions::{SetDataA, SwapLocation};
+use group_tree::GroupTree;
 use makers::{access, facility, fill, forwarding, subscriber};
-use mr_subtree::SubTree;
+use row_groups::Facilities;
 use std::process::Abort;
 use steps::{
     ANSWERS, Answer, Ask, FULL, HOURS, LAST_AREA, LAST_ZONE, MOVES, ROWS, action_of, notes_of,
@@ -254,11 +255,11 @@ fn keeps_subscriber<R: Rows>(rows: &mut R, first: Subscriber, second: Subscriber
 /// What rows answer of an Access_Info row, which they keep by its key.
 fn keeps_access<R: Rows>(rows: &mut R, row: Access) -> bool {
     let key = row.key();
-    let mut kept = rows.replace_a(key, row) == Err(row);
-    kept &= rows.insert_a(key, row).is_ok();
-    kept &= rows.insert_a(key, row).is_err();
-    kept &= rows.get_a(key).copied() == Some(row);
-    kept &= rows.replace_a(key, row) == Ok(row);
+    let mut kept = rows.replace_a(row) == Err(row);
+    kept &= rows.insert_a(row).is_ok();
+    kept &= rows.insert_a(row).is_err();
+    kept &= rows.get_a(key) == Some(row);
+    kept &= rows.replace_a(row) == Ok(row);
     kept &= rows.remove_a(key) == Some(row);
     kept &= rows.get_a(key).is_none();
     kept &= rows.asked() == 17;
@@ -269,13 +270,13 @@ fn keeps_access<R: Rows>(rows: &mut R, row: Access) -> bool {
 fn keeps_facility<R: Rows>(rows: &mut R, row: Facility) -> bool {
     let key = row.key();
     let mut data = SetDataA { data_a: 255 };
-    let mut kept = rows.replace_f(key, row) == Err(row);
+    let mut kept = rows.replace_f(row) == Err(row);
     kept &= !rows.revise_f(key, &mut data);
-    kept &= rows.insert_f(key, row).is_ok();
-    kept &= rows.insert_f(key, row).is_err();
-    kept &= rows.get_f(key).copied() == Some(row);
+    kept &= rows.insert_f(row).is_ok();
+    kept &= rows.insert_f(row).is_err();
+    kept &= rows.get_f(key) == Some(row);
     kept &= rows.revise_f(key, &mut data);
-    kept &= rows.replace_f(key, row) == Ok(row.with_data_a(255));
+    kept &= rows.replace_f(row) == Ok(row.with_data_a(255));
     kept &= rows.remove_f(key) == Some(row);
     kept &= rows.get_f(key).is_none();
     kept &= rows.asked() == 26;
@@ -285,11 +286,11 @@ fn keeps_facility<R: Rows>(rows: &mut R, row: Facility) -> bool {
 /// The same of a Call_Forwarding row.
 fn keeps_forwarding<R: Rows>(rows: &mut R, row: Forwarding) -> bool {
     let key = row.key();
-    let mut kept = rows.replace_c(key, row) == Err(row);
-    kept &= rows.insert_c(key, row).is_ok();
-    kept &= rows.insert_c(key, row).is_err();
-    kept &= rows.get_c(key).copied() == Some(row);
-    kept &= rows.replace_c(key, row) == Ok(row);
+    let mut kept = rows.replace_c(row) == Err(row);
+    kept &= rows.insert_c(row).is_ok();
+    kept &= rows.insert_c(row).is_err();
+    kept &= rows.get_c(key) == Some(row);
+    kept &= rows.replace_c(row) == Ok(row);
     kept &= rows.remove_c(key) == Some(row);
     kept &= rows.get_c(key).is_none();
     kept &= rows.asked() == 33;
@@ -316,7 +317,10 @@ fn counts_seen(cells: &Cells) -> (u64, u64, u64) {
 }
 
 /// How a forwarding of subscriber 7 counts by zones of 4, once and twice.
-fn counted_twice(facilities: &SubTree<Facility>, row: &Forwarding) -> [(u64, u64, u64); 2] {
+fn counted_twice(
+    facilities: &GroupTree<Facility, Facilities>,
+    row: &Forwarding,
+) -> [(u64, u64, u64); 2] {
     let mut tally = Tally::zero(facilities, 4);
     tally.count_forwarding(row);
     let once = tally.cells();
@@ -327,15 +331,15 @@ fn counted_twice(facilities: &SubTree<Facility>, row: &Forwarding) -> [(u64, u64
 /// How rows of subscriber 7 count by zones of 4: a forwarding without its facility, with it, and with an idle one, and
 /// at last an access, and a facility too.
 fn counted(
-    facilities: &mut SubTree<Facility>,
+    facilities: &mut GroupTree<Facility, Facilities>,
     access: &Access,
     facility: Facility,
     forwarding: &Forwarding,
 ) -> [[(u64, u64, u64); 2]; 4] {
     let none = counted_twice(facilities, forwarding);
-    let _ = facilities.insert(facility.key(), facility);
+    let _ = facilities.insert(facility);
     let active = counted_twice(facilities, forwarding);
-    let _ = facilities.replace(facility.key(), facility.with_is_active(false));
+    let _ = facilities.replace(facility.with_is_active(false));
     let idle = counted_twice(facilities, forwarding);
     let mut tally = Tally::zero(facilities, 4);
     tally.count_row(access.s_id());
@@ -349,7 +353,7 @@ fn counted(
 fn counted_rows(rt: HostRuntime) {
     let (access, facility) = (access(&rt, 7, 4), facility(&rt, 7, 2, 1));
     let forwarding = forwarding(&rt, 7, 2, 8, 16);
-    let mut facilities = SubTree::new(rt.alloc()).expect(&rt, "a tree");
+    let mut facilities = GroupTree::new(rt.alloc()).expect(&rt, "a tree");
     let seen = counted(&mut facilities, &access, facility, &forwarding);
     drop(facilities);
     let mut one = Cells::zero();

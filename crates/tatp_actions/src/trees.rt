@@ -4,21 +4,24 @@ ghost use Rattle.std.specs.Borrow.{sem, follows_so};
 ghost use Rattle.tatp_actions.specs.Tables.{once_more};
 
 use crate::rows::Rows;
+use group_tree::{Group, GroupTree, Row};
 use mr_node::Revise;
 use mr_subtree::SubTree;
+use row_groups::{Accesses, Facilities, Forwardings};
 use std::alloc::Global;
 use tatp_rows::{Access, Back, Facility, Forwarding, Refusal, Subscriber};
 
 /// The keys of two successive subscribers are 2^16 apart.
 pub(crate) const KEY_SHIFT: u32 = 16;
 
-/// The rows of a part, each of the four tables in a tree of its own, and how often they were asked.
+/// The rows of a part, each of the four tables in a tree of its own, and how often they were asked. The accesses and
+/// the facilities of a subscriber lie in groups, and so do the forwardings of a facility.
 #[derive(Drop)]
 pub struct Trees {
     pub(crate) subscribers: SubTree<Subscriber>,
-    pub(crate) access: SubTree<Access>,
-    pub(crate) facilities: SubTree<Facility>,
-    pub(crate) forwardings: SubTree<Forwarding>,
+    pub(crate) access: GroupTree<Access, Accesses>,
+    pub(crate) facilities: GroupTree<Facility, Facilities>,
+    pub(crate) forwardings: GroupTree<Forwarding, Forwardings>,
     pub(crate) asked: u64,
 }
 
@@ -28,6 +31,17 @@ fn empty<V: Default>(alloc: Global) -> SubTree<V>
     ensures height { result.height ≡ 0 }
 {
     match SubTree::new(alloc) {
+        Ok(tree) => tree,
+        Err(_) => unreachable!(),
+    }
+}
+
+/// Makes a tree of groups without rows.
+fn no_groups<R: Row, G: Group<R>>(alloc: Global) -> GroupTree<R, G>
+    ensures rows { result.rows ≡ [] }
+    ensures height { result.height ≡ 0 }
+{
+    match GroupTree::new(alloc) {
         Ok(tree) => tree,
         Err(_) => unreachable!(),
     }
@@ -45,9 +59,9 @@ impl Trees {
     {
         Ok(Trees {
             subscribers: empty(alloc),
-            access: empty(alloc),
-            facilities: empty(alloc),
-            forwardings: empty(alloc),
+            access: no_groups(alloc),
+            facilities: no_groups(alloc),
+            forwardings: no_groups(alloc),
             asked: 0,
         })
     }
@@ -105,19 +119,19 @@ impl Rows for Trees {
         self.subscribers.remove(key)
     }
 
-    fn get_a(&mut self, key: u64) -> Option<&Access> {
+    fn get_a(&mut self, key: u64) -> Option<Access> {
         self.ask();
-        self.access.get(key)
+        self.access.get_by_guess(key, KEY_SHIFT)
     }
 
-    fn replace_a(&mut self, key: u64, value: Access) -> Result<Access, Access> {
+    fn replace_a(&mut self, row: Access) -> Result<Access, Access> {
         self.ask();
-        self.access.replace(key, value)
+        self.access.replace(row)
     }
 
-    fn insert_a(&mut self, key: u64, value: Access) -> Result<(), Back<Access>> {
+    fn insert_a(&mut self, row: Access) -> Result<(), Back<Access>> {
         self.ask();
-        self.access.insert(key, value)
+        self.access.insert(row)
     }
 
     fn remove_a(&mut self, key: u64) -> Option<Access> {
@@ -125,14 +139,14 @@ impl Rows for Trees {
         self.access.remove(key)
     }
 
-    fn get_f(&mut self, key: u64) -> Option<&Facility> {
+    fn get_f(&mut self, key: u64) -> Option<Facility> {
         self.ask();
-        self.facilities.get(key)
+        self.facilities.get_by_guess(key, KEY_SHIFT)
     }
 
-    fn replace_f(&mut self, key: u64, value: Facility) -> Result<Facility, Facility> {
+    fn replace_f(&mut self, row: Facility) -> Result<Facility, Facility> {
         self.ask();
-        self.facilities.replace(key, value)
+        self.facilities.replace(row)
     }
 
     fn revise_f<E: Revise<Facility>>(&mut self, key: u64, revision: &mut E) -> bool {
@@ -140,9 +154,9 @@ impl Rows for Trees {
         self.facilities.revise(key, revision)
     }
 
-    fn insert_f(&mut self, key: u64, value: Facility) -> Result<(), Back<Facility>> {
+    fn insert_f(&mut self, row: Facility) -> Result<(), Back<Facility>> {
         self.ask();
-        self.facilities.insert(key, value)
+        self.facilities.insert(row)
     }
 
     fn remove_f(&mut self, key: u64) -> Option<Facility> {
@@ -150,19 +164,19 @@ impl Rows for Trees {
         self.facilities.remove(key)
     }
 
-    fn get_c(&mut self, key: u64) -> Option<&Forwarding> {
+    fn get_c(&mut self, key: u64) -> Option<Forwarding> {
         self.ask();
         self.forwardings.get(key)
     }
 
-    fn replace_c(&mut self, key: u64, value: Forwarding) -> Result<Forwarding, Forwarding> {
+    fn replace_c(&mut self, row: Forwarding) -> Result<Forwarding, Forwarding> {
         self.ask();
-        self.forwardings.replace(key, value)
+        self.forwardings.replace(row)
     }
 
-    fn insert_c(&mut self, key: u64, value: Forwarding) -> Result<(), Back<Forwarding>> {
+    fn insert_c(&mut self, row: Forwarding) -> Result<(), Back<Forwarding>> {
         self.ask();
-        self.forwardings.insert(key, value)
+        self.forwardings.insert(row)
     }
 
     fn remove_c(&mut self, key: u64) -> Option<Forwarding> {

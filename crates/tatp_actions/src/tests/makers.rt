@@ -91,7 +91,7 @@ fn put_facility<R: Rows>(rows: &mut R, row: Facility) -> Result<(), Refusal>
 {
     // The reader says that the row is in range.
     let _s_id = row.s_id();
-    if let Err(back) = rows.insert_f(row.key(), row) {
+    if let Err(back) = rows.insert_f(row) {
         return Err(back.why);
     }
     Ok(())
@@ -110,7 +110,7 @@ fn put_forwarding<R: Rows>(rows: &mut R, row: Forwarding) -> Result<(), Refusal>
 {
     // The reader says that the row is in range.
     let _s_id = row.s_id();
-    if let Err(back) = rows.insert_c(row.key(), row) {
+    if let Err(back) = rows.insert_c(row) {
         return Err(back.why);
     }
     Ok(())

@@ -1,7 +1,10 @@
 use Rattle.tatp_actions.proofs.Common.{◌∙◌, ap, low_part, high_part}
-use Rattle.tatp_actions.proofs.CutTablesLemmas.{low_is, low_holds, high_is, high_holds}
+use Rattle.tatp_actions.proofs.CutTablesLemmas.{base_of_subscriber, low_is, low_holds, high_is, high_holds}
 use Rattle.tatp_actions.proofs.StoredLemmas.{own_heights}
 use Rattle.tatp_actions.proofs.cutting.Part.slice_into.Goals as goal
+
+pub cut_into-steps-requires-clause-key : goal.cut_into-steps-requires-clause-key
+cut_into-steps-requires-clause-key c = base_of_subscriber _ c.args.at c.subscriber_key.ensures
 
 pub invariant_of-self : goal.invariant_of-self
 invariant_of-self c =

@@ -3,4 +3,4 @@ use Rattle.tatp_actions.proofs.StoredLemmas.{found_in}
 use Rattle.tatp_actions.proofs.lending.Part.lend_facility.Goals as goal
 
 pub returns : goal.returns
-returns c = rw (← c.self.view_is) (found_in facility_key _ _ _ _ c.self.invariant.1.facilities c.row_key.ensures c.get.ensures)
+returns c = rw (← c.self.view_is) (found_in facility_key _ _ _ _ c.self.invariant.1.facilities c.row_key.ensures c.get_by_guess.ensures)

@@ -8,14 +8,14 @@ use Rattle.tatp_actions.proofs.listed.AccessTableRow.write_rows.Goals as goal
 listed : (g : _) (c : After-part g) → AreListed access_fields c.part.inside.rows.access.rows
 listed g c = access_listed (tables_of c.part.inside.rows) c.part.invariant.0.rows.rules c.part.invariant.1
 
-pub write_from-requires : goal.write_from-requires
-write_from-requires g c = (
+pub write_groups_from-requires : goal.write_groups_from-requires
+write_groups_from-requires g c = (
   omega arith,
-  (omega arith, (c.requires, ((listed g (goal.at.write_from-requires g c).After-part).ordered, listed_small access_fields c.part.inside.rows.access.rows (listed g (goal.at.write_from-requires g c).After-part)))),
+  (omega arith, (omega arith, (c.requires, ((listed g (goal.at.write_groups_from-requires g c).After-part).ordered, listed_small access_fields c.part.inside.rows.access.rows (listed g (goal.at.write_groups_from-requires g c).After-part))))),
 )
 
 pub returns : goal.returns
 returns g c =
     rw (← c.part.view_is)
-    (table_written access_fields g.T.FromRow.of_row c.args.from.now c.packed.result c.part.inside.rows.access.rows c.args.place c.args.rows.now c.write_from.result c.write_from.new.rows
-    (listed g (goal.at.returns g c).After-part) c.packed.ensures c.write_from.ensures)
+    (table_written access_fields g.T.FromRow.of_row c.args.from.now c.packed.result c.part.inside.rows.access.rows c.args.place c.args.rows.now c.write_groups_from.result c.write_groups_from.new.rows
+    (listed g (goal.at.returns g c).After-part) c.packed.ensures c.write_groups_from.ensures)

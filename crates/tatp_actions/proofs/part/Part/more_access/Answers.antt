@@ -1,13 +1,14 @@
+use Rattle.tatp_actions.proofs.Common.{refl}
 use Rattle.tatp_actions.proofs.KeyedLemmas.{more_access_added, more_access_holds, more_access_refused}
 use Rattle.tatp_actions.proofs.part.Part.more_access.Goals as goal
 
 pub returns-in-Err-clause-added : goal.returns-in-Err-clause-added
 returns-in-Err-clause-added g c =
     let table = c.in-Err.ensures.table in
-    rw (← c.self.view_is) (more_access_refused _ _ _ _ _ _ _ _ c.args.row _ c.key.ensures.key c.self.invariant table.1 c.in-Err.ensures.others table.2)
+    rw (← c.self.view_is) (more_access_refused _ _ _ _ _ _ _ _ c.args.row _ refl c.self.invariant table.1 c.in-Err.ensures.others table.2)
 
 pub invariant_of-self-2 : goal.invariant_of-self-2
-invariant_of-self-2 g c = more_access_holds _ _ _ _ _ _ _ _ _ c.args.row c.key.ensures.key c.self.invariant c.in_default.ensures.table c.in_default.ensures.others (rw (← c.self.view_is) at c.requires) c.key.ensures.in_range
+invariant_of-self-2 g c = more_access_holds _ _ _ _ _ _ _ _ _ c.args.row refl c.self.invariant c.in_default.ensures.table c.in_default.ensures.others (rw (← c.self.view_is) at c.requires) c.s_id-s_id.ensures.in_range
 
 pub returns-clause-added : goal.returns-clause-added
-returns-clause-added g c = rw (← c.self.view_is) (more_access_added _ _ _ 0 _ _ _ _ _ c.args.row c.key.ensures.key c.self.invariant c.in_default.ensures.table c.in_default.ensures.others)
+returns-clause-added g c = rw (← c.self.view_is) (more_access_added _ _ _ 0 _ _ _ _ _ c.args.row refl c.self.invariant c.in_default.ensures.table c.in_default.ensures.others)

@@ -1,6 +1,9 @@
 use Rattle.tatp_actions.proofs.Common.{is_some, ap, ◌∙◌, facility_at, stored_book}
-use Rattle.tatp_actions.proofs.RevisedLemmas.{spent_found, facility_there, facility_is, facility_holds}
+use Rattle.tatp_actions.proofs.RevisedLemmas.{spent_found, facility_there, facility_is, facility_holds, facility_keeps}
 use Rattle.tatp_actions.proofs.part.Part.revise_facility.Goals as goal
+
+pub revise_f-requires : goal.revise_f-requires
+revise_f-requires g c = facility_keeps _ _ _ _ _ _ _ c.args.s_id c.args.sf_type (g.E.Revise.revised c.args.revision.now) c.row_key.ensures c.ranges.sf_type.fits c.self.invariant c.requires
 
 pub invariant_of-self : goal.invariant_of-self
 invariant_of-self g c = facility_holds _ _ _ _ _ _ _ _ _ c.args.s_id c.args.sf_type _ c.row_key.ensures c.ranges.sf_type.fits c.self.invariant c.requires c.revise_f.ensures.rows

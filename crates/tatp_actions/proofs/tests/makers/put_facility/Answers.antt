@@ -17,13 +17,13 @@ found book book1 row absent is = rw (is, row_at-with_row_same facility_key (faci
 
 pub returns-clause-rows : goal.returns-clause-rows
 returns-clause-rows g c =
-    (more_facilities_holds _ _ 0 0 1 10 1 0 _ c.args.row c.key.ensures.key (held _ c.requires.rows c.requires.keys) c.in_default.ensures.table c.in_default.ensures.others {h1 = zero_heights} (rw c.requires.subscriber c.requires.there) c.s_id-s_id.ensures.in_range).0.rows
+    (more_facilities_holds _ _ 0 0 1 10 1 0 _ c.args.row refl (held _ c.requires.rows c.requires.keys) c.in_default.ensures.table c.in_default.ensures.others {h1 = zero_heights} (rw c.requires.subscriber c.requires.there) c.s_id-s_id.ensures.in_range).0.rows
 
 pub returns-clause-keys : goal.returns-clause-keys
 returns-clause-keys g c =
-    (more_facilities_holds _ _ 0 0 1 10 1 0 _ c.args.row c.key.ensures.key (held _ c.requires.rows c.requires.keys) c.in_default.ensures.table c.in_default.ensures.others {h1 = zero_heights} (rw c.requires.subscriber c.requires.there) c.s_id-s_id.ensures.in_range).1
+    (more_facilities_holds _ _ 0 0 1 10 1 0 _ c.args.row refl (held _ c.requires.rows c.requires.keys) c.in_default.ensures.table c.in_default.ensures.others {h1 = zero_heights} (rw c.requires.subscriber c.requires.there) c.s_id-s_id.ensures.in_range).1
 
 pub returns-clause-there : goal.returns-clause-there
 returns-clause-there g c =
-    let added = more_facilities_added _ _ 0 0 1 10 1 0 _ c.args.row c.key.ensures.key (held _ c.requires.rows c.requires.keys) c.in_default.ensures.table c.in_default.ensures.others in
+    let added = more_facilities_added _ _ 0 0 1 10 1 0 _ c.args.row refl (held _ c.requires.rows c.requires.keys) c.in_default.ensures.table c.in_default.ensures.others in
     rw (c.requires.subscriber, c.requires.kind) at (found _ _ c.args.row added.0 added.1)
