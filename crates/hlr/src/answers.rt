@@ -1,4 +1,4 @@
-//! The replies to reads, built from rows that the register lends.
+//! The replies to reads, built from the rows that the register finds.
 ghost use Rattle.std.specs.Prelude.{Some, IfOk, IfErr};
 ghost use Rattle.csv.specs.Records.{fields_of};
 ghost use Rattle.hlr_owners.specs.Owners.{AllHome, store_in};
@@ -26,10 +26,10 @@ fn find_subscriber<'a>(row: &ByteRecord, register: &'a Register) -> Result<&'a S
 }
 
 /// Finds the row that `gad,S,ai_type` reads. Its refusals, in order, are `Syntax`, `Field`, `Moving`, and `NoAccess`.
-fn find_access<'a>(row: &ByteRecord, register: &'a Register) -> Result<&'a Access, Refusal>
+fn find_access(row: &ByteRecord, register: &Register) -> Result<Access, Refusal>
     requires { AllHome register.now.owners }
     ensures found { IfOk result (λ found. CommandText (fields_of row.now) (command_named (Some word.Gad) (fields_of row.now)) (store_in register.now)
-        (access_line found.now.data1 found.now.data2 found.now.data3 found.now.data4) (store_in register.now)) }
+        (access_line found.data1 found.data2 found.data3 found.data4) (store_in register.now)) }
     ensures refused { IfErr result (λ why. CommandText (fields_of row.now) (command_named (Some word.Gad) (fields_of row.now)) (store_in register.now) (refused_line why) (store_in register.now)) }
 {
     let (s_id, ai_type) = read_gad(row)?;

@@ -44,7 +44,7 @@ pub(crate) fn read_access(part: &LentPart, s_id: u64, ai_type: u64, row: &mut Hl
     if !has(part, s_id) {
         return ELSEWHERE;
     }
-    let found = part.lend_access(s_id as u32, ai_type as u8).copied();
+    let found = part.lend_access(s_id as u32, ai_type as u8);
     write_access_found(&found, s_id, ai_type, row)
 }
 

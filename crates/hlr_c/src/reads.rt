@@ -134,7 +134,7 @@ fn read_access(register: &Register, s_id: u64, ai_type: u64, row: &mut HlrAccess
 {
     match register.lend_access(s_id, ai_type) {
         Ok(found) => {
-            write_access(found, s_id, ai_type, row);
+            write_access(&found, s_id, ai_type, row);
             DONE
         }
         Err(why) => why.code(),

@@ -45,12 +45,12 @@ module _ (s_id : ℕ) (holding : HoldingState) (rules : IsHolding holding) (with
   subscriber_acted None answer found is =
       rw is (read_acted (action.SubscriberData s_id) holding rules (row_reply.Refused refusal.NoSubscriber) (held_fits holding rules s_id within) (ap (subscriber_data holding.part.book) (sym found)))
 
-  pub access_acted : (kind : ℕ) → is_between 1 4 kind ≡ true → (lent : Option (Bor AccessInfoRow)) (answer : Reply) → option_copied lent ≡ access_at holding.part.book s_id kind
-      → MatchResult (ok_or lent refusal.NoAccess) (λ row. answer ≡ reply.Rows (row_reply.AccessRow row.now.data1 row.now.data2 row.now.data3 row.now.data4)) (λ why. answer ≡ reply.Refused why)
+  pub access_acted : (kind : ℕ) → is_between 1 4 kind ≡ true → (found : Option AccessInfoRow) (answer : Reply) → found ≡ access_at holding.part.book s_id kind
+      → MatchResult (ok_or found refusal.NoAccess) (λ row. answer ≡ reply.Rows (row_reply.AccessRow row.data1 row.data2 row.data3 row.data4)) (λ why. answer ≡ reply.Refused why)
       → IsActed (action.AccessData s_id kind) holding answer holding
-  access_acted kind typed (Some row) answer found is =
-      rw is (read_acted (action.AccessData s_id kind) holding rules (row_reply.AccessRow row.now.data1 row.now.data2 row.now.data3 row.now.data4) (rw (held_fits holding rules s_id within, typed) refl)
-      (ap (access_data holding.part.book) (sym found)))
-  access_acted kind typed None answer found is =
+  access_acted kind typed (Some row) answer same is =
+      rw is (read_acted (action.AccessData s_id kind) holding rules (row_reply.AccessRow row.data1 row.data2 row.data3 row.data4) (rw (held_fits holding rules s_id within, typed) refl)
+      (ap (access_data holding.part.book) (sym same)))
+  access_acted kind typed None answer same is =
       rw is (read_acted (action.AccessData s_id kind) holding rules (row_reply.Refused refusal.NoAccess) (rw (held_fits holding rules s_id within, typed) refl)
-      (ap (access_data holding.part.book) (sym found)))
+      (ap (access_data holding.part.book) (sym same)))

@@ -76,10 +76,10 @@ pub(crate) fn row_reply(lent: Result<&Subscriber, Refusal>) -> Reply
 }
 
 /// Makes the reply to a read of an Access_Info row: its data1 to data4, or why it was refused.
-pub(crate) fn access_reply(lent: Result<&Access, Refusal>) -> Reply
-    ensures { MatchResult lent.entry (λ row. result ≡ Reply.Rows (RowReply.AccessRow row.now.data1 row.now.data2 row.now.data3 row.now.data4)) (λ why. result ≡ Reply.Refused why) }
+pub(crate) fn access_reply(found: Result<Access, Refusal>) -> Reply
+    ensures { MatchResult found (λ row. result ≡ Reply.Rows (RowReply.AccessRow row.data1 row.data2 row.data3 row.data4)) (λ why. result ≡ Reply.Refused why) }
 {
-    match lent {
+    match found {
         Ok(row) => Reply::Rows(RowReply::AccessRow {
             data1: row.data1(),
             data2: row.data2(),

@@ -40,15 +40,14 @@ impl Register {
         self.owners.lend_subscriber(s_id)
     }
 
-    /// Does GET_ACCESS_DATA (TATP, section 3.3), as `Event::AccessData`, but the row is lent from where it lies. Its
-    /// refusals, in order, are `Field` if s_id isn't in 1..=16,777,216 or ai_type isn't in 1..=4, `Moving`, and
-    /// `NoAccess`.
-    pub fn lend_access(&self, s_id: u64, ai_type: u64) -> Result<&Access, Refusal>
+    /// Does GET_ACCESS_DATA (TATP, section 3.3), as `Event::AccessData`, and returns the whole row. Its refusals, in
+    /// order, are `Field` if s_id isn't in 1..=16,777,216 or ai_type isn't in 1..=4, `Moving`, and `NoAccess`.
+    pub fn lend_access(&self, s_id: u64, ai_type: u64) -> Result<Access, Refusal>
         requires { IsHomeTo (event.AccessData s_id ai_type) self.now }
         ensures row { IfOk result (λ row. IsStep (event.AccessData s_id ai_type) (store_in self.now)
-            (reply.Rows (row_reply.AccessRow row.now.data1 row.now.data2 row.now.data3 row.now.data4)) (store_in self.now)) }
+            (reply.Rows (row_reply.AccessRow row.data1 row.data2 row.data3 row.data4)) (store_in self.now)) }
         ensures refused { IfErr result (λ why. IsStep (event.AccessData s_id ai_type) (store_in self.now) (reply.Refused why) (store_in self.now)) }
-        ensures while_out { MatchResult result (λ row. IsStepWhileOut (event.AccessData s_id ai_type) self.now (reply.Rows (row_reply.AccessRow row.now.data1 row.now.data2 row.now.data3 row.now.data4)) self.now) (λ why. IsStepWhileOut (event.AccessData s_id ai_type) self.now (reply.Refused why) self.now) }
+        ensures while_out { MatchResult result (λ row. IsStepWhileOut (event.AccessData s_id ai_type) self.now (reply.Rows (row_reply.AccessRow row.data1 row.data2 row.data3 row.data4)) self.now) (λ why. IsStepWhileOut (event.AccessData s_id ai_type) self.now (reply.Refused why) self.now) }
     {
         let s_id = in_range(s_id, LAST_SUBSCRIBER)?;
         let ai_type = byte_in_range(ai_type, 4)?;

@@ -115,9 +115,9 @@ impl LentPart {
         self.holding.lend_subscriber(s_id)
     }
 
-    /// Lends the Access_Info row of a subscriber's access, or returns `None` if the part has no such row.
-    pub fn lend_access(&self, s_id: u32, ai_type: u8) -> Option<&Access>
-        ensures { option_copied result ≡ access_at self.now.part.book s_id ai_type }
+    /// Returns the Access_Info row of a subscriber's access, or `None` if the part has no such row.
+    pub fn lend_access(&self, s_id: u32, ai_type: u8) -> Option<Access>
+        ensures { result ≡ access_at self.now.part.book s_id ai_type }
     {
         self.holding.lend_access(s_id, ai_type)
     }

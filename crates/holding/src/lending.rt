@@ -1,4 +1,4 @@
-//! The rows of a holding's part, lent to be read.
+//! The rows of a holding's part, read without a question that counts.
 ghost use Rattle.std.specs.Prelude.{◌≡◌, option_copied};
 ghost use Rattle.tatp_actions.specs.Action.{destinations};
 ghost use Rattle.tatp_actions.specs.Book.{subscriber_at, access_at, facility_at, forwarding_at};
@@ -15,23 +15,23 @@ impl Holding {
         self.part.lend_subscriber(s_id)
     }
 
-    /// Lends the Access_Info row of a subscriber's access, or returns `None` if there is none.
-    pub fn lend_access(&self, s_id: u32, ai_type: u8) -> Option<&Access>
-        ensures { option_copied result ≡ access_at self.now.part.book s_id ai_type }
+    /// Returns the Access_Info row of a subscriber's access, or `None` if there is none.
+    pub fn lend_access(&self, s_id: u32, ai_type: u8) -> Option<Access>
+        ensures { result ≡ access_at self.now.part.book s_id ai_type }
     {
         self.part.lend_access(s_id, ai_type)
     }
 
-    /// Lends the Special_Facility row of a subscriber's facility, or returns `None` if there is none.
-    pub fn lend_facility(&self, s_id: u32, sf_type: u8) -> Option<&Facility>
-        ensures { option_copied result ≡ facility_at self.now.part.book s_id sf_type }
+    /// Returns the Special_Facility row of a subscriber's facility, or `None` if there is none.
+    pub fn lend_facility(&self, s_id: u32, sf_type: u8) -> Option<Facility>
+        ensures { result ≡ facility_at self.now.part.book s_id sf_type }
     {
         self.part.lend_facility(s_id, sf_type)
     }
 
-    /// Lends the Call_Forwarding row of a facility that starts at an hour, or returns `None` if there is none.
-    pub fn lend_forwarding(&self, s_id: u32, sf_type: u8, hour: u8) -> Option<&Forwarding>
-        ensures { option_copied result ≡ forwarding_at self.now.part.book s_id sf_type hour }
+    /// Returns the Call_Forwarding row of a facility that starts at an hour, or `None` if there is none.
+    pub fn lend_forwarding(&self, s_id: u32, sf_type: u8, hour: u8) -> Option<Forwarding>
+        ensures { result ≡ forwarding_at self.now.part.book s_id sf_type hour }
     {
         self.part.lend_forwarding(s_id, sf_type, hour)
     }

@@ -19,9 +19,9 @@ fn is_row(lent: Result<&Subscriber, Refusal>, reply: &Reply) -> bool {
     }
 }
 
-/// Whether an Access_Info row that was lent, or a refusal, is what a reply says.
-fn is_access(lent: Result<&Access, Refusal>, reply: &Reply) -> bool {
-    match (lent, reply) {
+/// Whether an Access_Info row that was found, or a refusal, is what a reply says.
+fn is_access(found: Result<Access, Refusal>, reply: &Reply) -> bool {
+    match (found, reply) {
         (
             Ok(row),
             Reply::Rows(
