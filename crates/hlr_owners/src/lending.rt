@@ -1,4 +1,4 @@
-//! The reads that lend rows.
+//! The reads of rows, of which those of the table Subscriber are lent.
 ghost use Rattle.std.specs.Prelude.{◌≡◌, ◌+◌, true, IfOk, IfErr, MatchResult};
 ghost use Rattle.tatp_rows.specs.Rows.{is_between, is_start_time};
 ghost use Rattle.tatp_rows.specs.declared.ranges.TheConstants.{LAST_SUBSCRIBER};
@@ -29,15 +29,15 @@ impl Owners {
         }
     }
 
-    /// Lends the Access_Info row of a subscriber's access of a type in 1..=4. Its refusals, in order, are `Moving` and
+    /// Returns the Access_Info row of a subscriber's access of a type in 1..=4. Its refusals, in order, are `Moving` and
     /// `NoAccess`.
-    pub fn lend_access(&self, s_id: u32, ai_type: u8) -> Result<&Access, Refusal>
+    pub fn lend_access(&self, s_id: u32, ai_type: u8) -> Result<Access, Refusal>
         requires subscriber { IsWithin 1 (LAST_SUBSCRIBER + 1) s_id }
         requires home { IsHomeFor s_id self.now }
         requires kind { is_between 1 4 ai_type ≡ true }
-        ensures row { IfOk result (λ row. IsRead (action.AccessData s_id ai_type) (store_in self.now) (row_reply.AccessRow row.now.data1 row.now.data2 row.now.data3 row.now.data4)) }
+        ensures row { IfOk result (λ row. IsRead (action.AccessData s_id ai_type) (store_in self.now) (row_reply.AccessRow row.data1 row.data2 row.data3 row.data4)) }
         ensures refused { IfErr result (λ why. IsRead (action.AccessData s_id ai_type) (store_in self.now) (row_reply.Refused why)) }
-        ensures while_out { MatchResult result (λ row. IsReadWhileOut (action.AccessData s_id ai_type) self.now (row_reply.AccessRow row.now.data1 row.now.data2 row.now.data3 row.now.data4)) (λ why. IsReadWhileOut (action.AccessData s_id ai_type) self.now (row_reply.Refused why)) }
+        ensures while_out { MatchResult result (λ row. IsReadWhileOut (action.AccessData s_id ai_type) self.now (row_reply.AccessRow row.data1 row.data2 row.data3 row.data4)) (λ why. IsReadWhileOut (action.AccessData s_id ai_type) self.now (row_reply.Refused why)) }
     {
         let holding = self.holding_of(s_id)?;
         match holding.lend_access(s_id, ai_type) {

@@ -47,7 +47,7 @@ impl Owners {
     {
         let holding = self.holding_of(s_id)?;
         match holding.lend_facility(s_id, sf_type) {
-            Some(row) => Ok(*row),
+            Some(row) => Ok(row),
             None => Err(Refusal::NoFacility),
         }
     }
@@ -62,7 +62,7 @@ impl Owners {
     {
         let holding = self.holding_of(s_id)?;
         match holding.lend_forwarding(s_id, sf_type, hour) {
-            Some(row) => Ok(*row),
+            Some(row) => Ok(row),
             None => Err(Refusal::NoForwarding),
         }
     }

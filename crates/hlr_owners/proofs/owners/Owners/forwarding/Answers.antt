@@ -5,8 +5,8 @@ use Rattle.hlr_owners.proofs.owners.Owners.forwarding.Goals as goal
 
 pub returns-in-Some : goal.returns-in-Some
 returns-in-Some c = record {
-  value = row_found c.args.s_id (store_in c.args.self.now) _ _ (Some c.in-Some.row.now) refusal.NoForwarding c.in_ok-holding.ensures.home.home (c.in_ok-holding.ensures.home.forwarding c.args.sf_type c.args.hour (let low = c.ranges.sf_type.fits in omega arith) (let small = c.ranges.hour.fits in omega arith)) c.in-Some.ensures;
-  while_out = λ ks become. let has = c.in_ok-holding.ensures.while_out ks become in row_found c.args.s_id (store_with c.args.self.now ks) _ _ (Some c.in-Some.row.now) refusal.NoForwarding has.home (has.forwarding c.args.sf_type c.args.hour (let low = c.ranges.sf_type.fits in omega arith) (let small = c.ranges.hour.fits in omega arith)) c.in-Some.ensures;
+  value = row_found c.args.s_id (store_in c.args.self.now) _ _ (Some c.in-Some.row) refusal.NoForwarding c.in_ok-holding.ensures.home.home (c.in_ok-holding.ensures.home.forwarding c.args.sf_type c.args.hour (let low = c.ranges.sf_type.fits in omega arith) (let small = c.ranges.hour.fits in omega arith)) c.in-Some.ensures;
+  while_out = λ ks become. let has = c.in_ok-holding.ensures.while_out ks become in row_found c.args.s_id (store_with c.args.self.now ks) _ _ (Some c.in-Some.row) refusal.NoForwarding has.home (has.forwarding c.args.sf_type c.args.hour (let low = c.ranges.sf_type.fits in omega arith) (let small = c.ranges.hour.fits in omega arith)) c.in-Some.ensures;
 }
 
 pub returns-in-None : goal.returns-in-None
