@@ -80,9 +80,6 @@ subscriber_base n = omega arith
 facility_base : (n : ℕ) → IsBase facility_span (n * 65536)
 facility_base n = omega arith
 
--- and a key between two subscribers lies between two facilities
-pub base_of_facilities : (key : ℕ) → IsBase subscriber_span key → IsBase facility_span key
-base_of_facilities key base = omega arith
 
 -- a subscriber's key lies between two subscribers
 pub base_of_subscriber : (key s : ℕ) → key ≡ key_of s 0 0 → IsBase subscriber_span key
