@@ -21,6 +21,7 @@ pub use Rattle.mr_node.specs.Pages.{IsPage}
 pub use Rattle.mr_node.specs.Revisions.{revised_at}
 pub use Rattle.std.specs.Option.{unwrap_or}
 pub use Rattle.mr_node.proofs.FoldLemmas.{folds_append}
+pub use Rattle.mr_node.proofs.ReviseLemmas.{put_at}
 pub use Rattle.tatp_rows.specs.Keys.{access_key, facility_key, forwarding_key, key_of}
 pub use Rattle.tatp_rows.specs.Rows.{AccessInfoRow, SpecialFacilityRow, CallForwardingRow, access_in_range, facility_in_range, forwarding_in_range, is_between, is_start_time}
 pub use Rattle.tatp_rows.specs.declared.ranges.TheConstants.{LAST_SUBSCRIBER}

@@ -80,7 +80,6 @@ subscriber_base n = omega arith
 facility_base : (n : ℕ) → IsBase facility_span (n * 65536)
 facility_base n = omega arith
 
-
 -- a subscriber's key lies between two subscribers
 pub base_of_subscriber : (key s : ℕ) → key ≡ key_of s 0 0 → IsBase subscriber_span key
 base_of_subscriber key s is = omega arith

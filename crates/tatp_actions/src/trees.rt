@@ -126,7 +126,7 @@ impl Rows for Trees {
 
     fn replace_a(&mut self, row: Access) -> Result<Access, Access> {
         self.ask();
-        self.access.replace(row)
+        self.access.replace_by_guess(row, KEY_SHIFT)
     }
 
     fn insert_a(&mut self, row: Access) -> Result<(), Back<Access>> {
@@ -146,12 +146,12 @@ impl Rows for Trees {
 
     fn replace_f(&mut self, row: Facility) -> Result<Facility, Facility> {
         self.ask();
-        self.facilities.replace(row)
+        self.facilities.replace_by_guess(row, KEY_SHIFT)
     }
 
     fn revise_f<E: Revise<Facility>>(&mut self, key: u64, revision: &mut E) -> bool {
         self.ask();
-        self.facilities.revise(key, revision)
+        self.facilities.revise_by_guess(key, KEY_SHIFT, revision)
     }
 
     fn insert_f(&mut self, row: Facility) -> Result<(), Back<Facility>> {
