@@ -18,10 +18,10 @@ pub use Rattle.std.specs.Borrow.{Bor}
 pub use Rattle.std.proofs.lemmas.List.{length-map, length-take, map_more, take_all, take_more}
 pub use Rattle.mr_node.specs.Folds.{FoldsRows, WalksRows}
 pub use Rattle.mr_node.specs.Pages.{IsPage}
-pub use Rattle.mr_node.specs.Revisions.{revised_at}
+pub use Rattle.mr_node.specs.Revisions.{revised_at, spent_at}
 pub use Rattle.std.specs.Option.{unwrap_or}
 pub use Rattle.mr_node.proofs.FoldLemmas.{folds_append}
-pub use Rattle.mr_node.proofs.ReviseLemmas.{put_at}
+pub use Rattle.mr_node.proofs.ReviseLemmas.{revised_none, revised_some}
 pub use Rattle.tatp_rows.specs.Keys.{access_key, facility_key, forwarding_key, key_of}
 pub use Rattle.tatp_rows.specs.Rows.{AccessInfoRow, SpecialFacilityRow, CallForwardingRow, access_in_range, facility_in_range, forwarding_in_range, is_between, is_start_time}
 pub use Rattle.tatp_rows.specs.declared.ranges.TheConstants.{LAST_SUBSCRIBER}
@@ -32,3 +32,4 @@ pub use Rattle.group_tree.specs.Tables.{HoldsAccesses, HoldsFacilities, HoldsFor
 pub use Rattle.group_tree.specs.Groups.{AreGroups, IsBase, IsGroupAt, IsPutAt, IsReplacedAt, base_of, rows_beside, rows_of, Grouped, IsHeightOfGroups, AreGroupsApart, AreGroupsAt, rows_in}
 pub use Rattle.mr_subtree.specs.Trees.{IsRoot}
 pub use Rattle.std.proofs.lemmas.List.Elements.{filter-append}
+pub use Rattle.group_tree.specs.Revised.{change_spent, facility_in, group_changed, row_made}

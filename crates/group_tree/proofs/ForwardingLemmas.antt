@@ -1,5 +1,5 @@
 -- Groups of Call_Forwarding rows at their keys.
-use Rattle.group_tree.proofs.Common.{◌≡◌, ◌≢◌, ◌∙◌, refl, sym, ap, true, ◌⊎◌, inl, inr, IsTrue, is_start_time, type_in, ℕ, ◌+◌, ◌*◌, ◌/◌, ◌%◌, ◌<◌, ◌≤◌, List, Option, None, map, keys_from, option_map, arith, row_at, with_row_at, without_row, without_row_absent, key_of_pair, value_at, base_of, IsBase, IsPut, IsPutAt, IsReplacedAt, Result, Refusal, is_ok, CallForwardingRow, forwarding_key, forwarding_in_range, forwarding_start, forwarding_with, HoldsForwardings, forwardings_listed, s_id_in, facility_span}
+use Rattle.group_tree.proofs.Common.{◌≡◌, ◌∙◌, refl, sym, ap, true, ◌⊎◌, inl, inr, IsTrue, is_start_time, type_in, ℕ, ◌+◌, ◌/◌, ◌%◌, ◌<◌, List, Option, map, keys_from, option_map, arith, row_at, with_row_at, without_row, key_of_pair, value_at, base_of, IsBase, IsPut, IsPutAt, IsReplacedAt, Result, Refusal, is_ok, CallForwardingRow, forwarding_key, forwarding_in_range, forwarding_start, forwarding_with, HoldsForwardings, forwardings_listed, s_id_in, facility_span}
 use Rattle.group_tree.proofs.TableLemmas.{AreKept, IsAtHome, Table, found_at, handed_at, kept_put, kept_replaced, kept_without, left_at, put_at, replaced_at}
 use Rattle.group_tree.proofs.HourLemmas.{rising, s_id_of_base, started_key, type_of_base}
 use Rattle.tatp_rows.proofs.RowLemmas as ranges

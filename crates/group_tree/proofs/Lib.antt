@@ -12,3 +12,4 @@ pub mod ForwardingLemmas
 pub mod PageLemmas
 pub mod CutLemmas
 pub mod CrossingLemmas
+pub mod FacilityChangeLemmas

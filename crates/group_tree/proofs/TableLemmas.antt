@@ -1,6 +1,6 @@
 -- A table of groups: its rows with their keys, by what a row's key and its place have to do with each other.
-use Rattle.group_tree.proofs.Common.{◌≡◌, ◌≢◌, ◌∙◌, refl, sym, ap, subst, ℕ, ◌<◌, nat_le, true, List, [], ◌∷◌, map, Option, None, option_map, arith, nat_tests, AllByRecursion, keys_from, row_at, with_row, with_row_at, without_row, each-with_row, each-with_row_at, each-without_row, ordered-with_row, ordered-with_row_at, ordered-without_row, without_row_absent, IsOrderedBy, key_of_pair, value_at, base_of, IsPut, IsPutAt, IsReplacedAt, Result, Ok, Err, Refusal, is_ok, listed_by}
-use Rattle.group_tree.proofs.PlacedLemmas.{no_place, put-listed, row_at-listed, value_at-listed, with_row_at-listed, without_row-listed}
+use Rattle.group_tree.proofs.Common.{◌≡◌, ◌≢◌, ◌∙◌, refl, sym, ap, subst, ℕ, ◌<◌, nat_le, true, List, [], ◌∷◌, map, Option, None, option_map, arith, nat_tests, AllByRecursion, keys_from, row_at, with_row_at, without_row, each-with_row, each-with_row_at, each-without_row, ordered-with_row, ordered-with_row_at, ordered-without_row, IsOrderedBy, key_of_pair, value_at, base_of, IsPut, IsPutAt, IsReplacedAt, Result, Ok, Err, Refusal, is_ok, listed_by}
+use Rattle.group_tree.proofs.PlacedLemmas.{no_place, put-listed, value_at-listed, with_row_at-listed, without_row-listed}
 
 -- a table: where a row is among those of its group, which key it has there, how it looks as a row of a key, and what it
 -- is in its group

@@ -1,3 +1,4 @@
 pub mod Groups
 pub mod Tables
 pub mod Rules
+pub mod Revised

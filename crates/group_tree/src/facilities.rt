@@ -1,11 +1,16 @@
 //! The facilities of a subscriber as a group.
-ghost use Rattle.std.specs.Prelude.{◌≡◌, ◌≤◌, length};
+ghost use Rattle.std.specs.Prelude.{◌≡◌, ◌≤◌, length, is_some, IfSome};
+ghost use Rattle.tatp_rows.specs.Keys.{facility_key};
 ghost use Rattle.mr_node.specs.Folds.{WalksRows};
+ghost use Rattle.mr_node.specs.Revisions.{revised_at, spent_at};
+ghost use Rattle.mr_node.specs.Rows.{value_at};
 ghost use Rattle.group_tree.specs.Tables.{HoldsFacilities, facilities_listed};
 
+use crate::facility_change::FacilityChange;
 use crate::group::{Group, Row, keyed, push_from, walk_rows};
 use crate::tree::GroupTree;
 use arrayvec::ArrayVec;
+use mr_node::Revise;
 use row_groups::Facilities;
 use tatp_rows::{Facility, LAST_SUBSCRIBER};
 
@@ -94,6 +99,37 @@ impl Group<Facility> for Facilities {
 }
 
 impl GroupTree<Facility, Facilities> {
+    /// Changes the row at a key where it lies, which keeps its key. It returns false if there is none, and then nothing
+    /// has changed. It first looks where the group is in a dense tree, as `get_by_guess` does. It takes no memory.
+    pub fn revise_by_guess<E: Revise<Facility>>(
+        &mut self,
+        key: u64,
+        shift: u32,
+        revision: &mut E,
+    ) -> bool
+        requires { IfSome (value_at key self.old.rows) (λ row. facility_key (E.revised revision.old row) ≡ key) }
+        ensures rows { self.new ≡ record self.old { rows = revised_at key (E.revised revision.old) self.old.rows } }
+        ensures spent { revision.new ≡ spent_at key E.spent revision.old self.old.rows }
+        ensures found { result ≡ is_some (value_at key self.old.rows) }
+    {
+        let mut within = FacilityChange {
+            key,
+            change: revision,
+            made: None,
+        };
+        let _ = self
+            .groups
+            .revise_by_guess(Facilities::base(key), shift, &mut within);
+        match within.made {
+            Some(row) => {
+                // For the prover: a row is in range, as its reader says.
+                let _s_id = row.s_id();
+                true
+            }
+            None => false,
+        }
+    }
+
     /// Hands each row, in the order of keys, to a closure, together with what the closure writes to.
     pub fn walk<A, F: Fn(&mut A, u64, &Facility)>(&self, so_far: &mut A, f: &F)
         requires { F.IsAlwaysCallable f.now }

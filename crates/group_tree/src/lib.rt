@@ -7,6 +7,7 @@
 mod accesses;
 mod cuts;
 mod facilities;
+mod facility_change;
 mod forwardings;
 mod group;
 mod pages;

@@ -34,22 +34,6 @@ impl<R: Row, G: Group<R>> Model for GroupTree<R, G> {
     ghost invariant = { λ t. AreGroups G.listed G.Holds t.groups.rows };
 }
 
-/// The change that puts a group in the place of another one.
-#[derive(Drop)]
-struct Put<G> {
-    group: G,
-}
-
-impl<G: Copy> Revise<G> for Put<G> {
-    ghost revised = { λ put old. put.group };
-
-    ghost spent = { λ put old. put };
-
-    fn revise(&mut self, group: &mut G) {
-        *group = self.group;
-    }
-}
-
 impl<R: Row, G: Group<R>> GroupTree<R, G> {
     /// Makes a tree without rows. The root lies in the tree itself, so this always returns `Ok`.
     pub fn new(alloc: Global) -> Result<Self, Refusal>
@@ -126,26 +110,6 @@ impl<R: Row, G: Group<R>> GroupTree<R, G> {
         }
     }
 
-    /// Replaces the row with the key of this one, as `replace` does. It is quicker than that in a dense tree, in the
-    /// same way as `get_by_guess`.
-    pub fn replace_by_guess(&mut self, row: R, shift: u32) -> Result<R, R>
-        ensures rows { self.new ≡ record self.old { rows = with_row_at key_of_pair (R.row_key row) (R.row_key row, row) self.old.rows } }
-        ensures value { result ≡ ok_or (value_at (R.row_key row) self.old.rows) row }
-    {
-        let base = G::base(row.key());
-        let Some(mut group) = self.groups.get_by_guess(base, shift).copied() else {
-            return Err(row);
-        };
-        match group.replace(&row) {
-            Some(old) => {
-                let mut put = Put { group };
-                let _ = self.groups.revise_by_guess(base, shift, &mut put);
-                Ok(old)
-            }
-            None => Err(row),
-        }
-    }
-
     /// Changes the row at a key, which keeps its key. It returns false if there is none, and then nothing has changed.
     /// It takes no memory.
     pub fn revise<E: Revise<R>>(&mut self, key: u64, revision: &mut E) -> bool
@@ -159,22 +123,6 @@ impl<R: Row, G: Group<R>> GroupTree<R, G> {
         };
         revision.revise(&mut row);
         let _ = self.replace(row);
-        true
-    }
-
-    /// Changes the row at a key, as `revise` does. It is quicker than that in a dense tree, in the same way as
-    /// `get_by_guess`.
-    pub fn revise_by_guess<E: Revise<R>>(&mut self, key: u64, shift: u32, revision: &mut E) -> bool
-        requires { IfSome (value_at key self.old.rows) (λ row. R.row_key (E.revised revision.old row) ≡ key) }
-        ensures rows { self.new ≡ record self.old { rows = revised_at key (E.revised revision.old) self.old.rows } }
-        ensures spent { revision.new ≡ spent_at key E.spent revision.old self.old.rows }
-        ensures found { result ≡ is_some (value_at key self.old.rows) }
-    {
-        let Some(mut row) = self.get_by_guess(key, shift) else {
-            return false;
-        };
-        revision.revise(&mut row);
-        let _ = self.replace_by_guess(row, shift);
         true
     }
 

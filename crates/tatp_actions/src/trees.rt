@@ -126,7 +126,7 @@ impl Rows for Trees {
 
     fn replace_a(&mut self, row: Access) -> Result<Access, Access> {
         self.ask();
-        self.access.replace_by_guess(row, KEY_SHIFT)
+        self.access.replace(row)
     }
 
     fn insert_a(&mut self, row: Access) -> Result<(), Back<Access>> {
@@ -146,7 +146,7 @@ impl Rows for Trees {
 
     fn replace_f(&mut self, row: Facility) -> Result<Facility, Facility> {
         self.ask();
-        self.facilities.replace_by_guess(row, KEY_SHIFT)
+        self.facilities.replace(row)
     }
 
     fn revise_f<E: Revise<Facility>>(&mut self, key: u64, revision: &mut E) -> bool {
