@@ -7,7 +7,7 @@ use Rattle.journal.specs.Lines.{text, lines, open_from, HasFence, IsWhole, recov
 use Rattle.journal.specs.Machine.{Runs}
 use Rattle.journal.specs.declared.follower.Follower.{Follower}
 use Rattle.journal.specs.declared.tape.Ends.{Ends}
-use Rattle.journal.proofs.BegunLemmas.{take_none}
+use Rattle.journal.proofs.BegunLemmas.{kept_more, take_none}
 use Rattle.journal.proofs.LineLemmas.{lines_one_feed, lines_one_other, open_one_feed, open_one_other}
 use Rattle.journal.proofs.RunLemmas.{runs-append}
 use Rattle.journal.proofs.TextLemmas.{text_zero, text_byte, text-append, text_fenced, length-text, no_zero-append}
@@ -139,6 +139,20 @@ followed_line moves bytes more first now next at to line is_over was isnt inner 
     let fed = followed_feed moves (bytes ++ more) first now here more is_over begun 10 isnt (omega arith) line none refl next moved in
     let same : to ≡ there = grind (arith, whole, at_text, len) in
     rw same fed
+
+-- bytes without an end of a line were put behind the line that has begun
+pub followed_begun : {M : Type 0} (moves : List ℕ → M → M → Type 0) (most : ℕ) (bytes more : List ℕ) (first now : M) (f to : Follower)
+    → IsFollowed moves most bytes first now f → f.is_over ≡ false → AllByRecursion IsInner more
+    → (length f.line.items ≤ most → to.line.items ≡ take most (f.line.items ++ more))
+    → to.ends.whole ≡ f.ends.whole → to.ends.text ≡ f.ends.text + length more → to.ends.len ≡ f.ends.len + length more → to.is_over ≡ f.is_over
+    → IsFollowed moves most (bytes ++ more) first now to
+followed_begun moves most bytes more first now f to was isnt inner line whole at_text len over = record {
+  begun = was.begun ++ more;
+  read =
+      followed_inner moves bytes more first now f.ends to.ends was.begun (was.begun ++ more) f.is_over to.is_over
+      was.read isnt inner refl whole at_text len over;
+  line = kept_more most was.begun f.line.items more to.line.items was.line line;
+}
 
 -- nothing was read yet
 pub nothing_read : {M : Type 0} (moves : List ℕ → M → M → Type 0) (most : ℕ) (first : M) (f : Follower)

@@ -1,6 +1,6 @@
 -- A file of the operating system, with the calls that it has had.
 use Rattle.std.specs.Prelude.{◌≡◌, ℕ, true, List, [], ◌∷◌, length}
-use Rattle.journal_file.specs.Calls.{seen_after, left_after, faults_in, left_since}
+use Rattle.journal_file.specs.Calls.{seen_after, left_after, left_since}
 use Rattle.journal_file.specs.declared.noted.Noted.{Noted}
 use Rattle.journal_file.specs.declared.noted.UnreadNoted.{UnreadNoted}
 use Rattle.journal_file.specs.declared.record.Step.TheVariants.{Held}
@@ -28,10 +28,6 @@ noted_read unread = seen_after unread.log.calls
 -- no byte of it is left to be read
 abbrev pub IsReadWhole : {F : Type 0} → UnreadNoted F → Type 0
 IsReadWhole unread = unread.is_read ≡ true
-
--- how often the disk has failed while it was read
-abbrev pub noted_faults : {F : Type 0} → UnreadNoted F → ℕ
-noted_faults unread = faults_in unread.log.calls
 
 -- the same file, to be written, once all of it was read
 abbrev pub noted_file : {F : Type 0} → UnreadNoted F → Noted F

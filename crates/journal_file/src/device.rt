@@ -134,4 +134,7 @@ pub trait Unread {
 
     /// So is one that was read on twice.
     ghost stays_same: { (first then last : Self) → IsReadOn first then → IsReadOn then last → IsReadOn first last };
+
+    /// What was read of it before is the front of what is read of it now.
+    ghost reads_front: { (first last : Self) → IsReadOn first last → IsFront (read first) (read last) };
 }

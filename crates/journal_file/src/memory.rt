@@ -1,8 +1,8 @@
 //! A file in memory. Each call is done at once, so a crash leaves what is there. The file keeps each content that it
 //! has had, so that its clauses can speak of all moments.
 ghost use Rattle.std.specs.Prelude.{◌≡◌, ◌⊎◌, ◌≤◌, ◌+◌, ◌-◌, ◌++◌, [], ◌∷◌, length, take, drop, replicate, IfOk, OnOk, OnErr, None};
-ghost use Rattle.std.proofs.Common.{◌∙◌, inl, refl};
-ghost use Rattle.journal_file.specs.Laws.{bytes_alone};
+ghost use Rattle.std.proofs.Common.{◌∙◌, ap, arith, inl, refl};
+ghost use Rattle.journal_file.specs.Laws.{bytes_alone, longer_front};
 ghost use Rattle.journal_file.specs.Memory.{HadBeen, memory_bytes, memory_read, memory_file};
 
 use crate::{Device, JournalFault, Replace, Unread};
@@ -139,6 +139,8 @@ impl UnreadMemory {
 }
 
 impl Unread for UnreadMemory {
+    ghost use Rattle.journal_file.specs.declared.memory.Memory.{Memory};
+
     type File = Memory;
 
     ghost read = { λ u. take u.at u.file.bytes.items };
@@ -149,11 +151,13 @@ impl Unread for UnreadMemory {
 
     ghost faults = { λ u. 0 };
 
-    ghost IsReadOn = { λ first last. last.file ≡ first.file };
+    ghost IsReadOn = { λ first last. (last.file ≡ first.file) × (first.at ≤ last.at) };
 
-    ghost is_itself = { λ file. refl };
+    ghost is_itself = { λ file. (refl, omega (arith)) };
 
-    ghost stays_same = { λ first then last more again. again ∙ more };
+    ghost stays_same = { λ first then last more again. (again.0 ∙ more.0, omega (arith, more.1, again.1)) };
+
+    ghost reads_front = { λ first last more. longer_front first.at last.at first.file.bytes.items last.file.bytes.items (ap (λ (m : Memory). m.bytes.items) more.0) more.1 };
 
     fn read_on(&mut self, buffer: &mut [u8]) -> Result<usize, JournalFault> {
         let len = self.file.bytes.len();

@@ -1,8 +1,8 @@
 //! A file of the operating system. Each method makes its calls of the system, and then notes them with their answer.
 ghost use Rattle.std.specs.Prelude.{◌≡◌, ◌<◌, ◌≤◌, [], ◌∷◌, true, length, IfOk, None};
-ghost use Rattle.journal_file.specs.Calls.{HasReadOn, seen_after, left_after, faults_in, left_since};
 ghost use Rattle.std.proofs.Common.{◌∙◌, refl};
-ghost use Rattle.journal_file.specs.Laws.{more_reads, no_more_reads, now_counts, now_alone, seen_left};
+ghost use Rattle.journal_file.specs.Calls.{HasReadOn, seen_after, left_after, faults_in, left_since};
+ghost use Rattle.journal_file.specs.Laws.{more_reads, no_more_reads, now_counts, now_alone, read_front, seen_left};
 ghost use Rattle.journal_file.specs.Noted.{noted_file, noted_read};
 
 use crate::record::{Record, Step};
@@ -71,6 +71,8 @@ impl<F: SystemFile + Drop> Unread for UnreadNoted<F> {
     ghost is_itself = { λ file. (no_more_reads file.log.calls, refl) };
 
     ghost stays_same = { λ first then last more again. (more_reads first.log.calls then.log.calls last.log.calls more.0 again.0, again.1 ∙ more.1) };
+
+    ghost reads_front = { λ first last more. read_front first.log.calls last.log.calls more.0 };
 
     fn read_on(&mut self, buffer: &mut [u8]) -> Result<usize, JournalFault> {
         let Ok(n) = self.file.read_some(self.len, buffer) else {

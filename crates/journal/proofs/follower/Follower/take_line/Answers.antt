@@ -3,8 +3,7 @@ use Rattle.std.proofs.Common.{◌≡◌, ◌<◌, ◌+◌, ◌++◌, ◌∙◌, 
 use Rattle.std.proofs.lemmas.List.{take_all, take_more}
 use Rattle.std.specs.List.{AllByRecursion}
 use Rattle.journal.specs.Inside.{IsInner}
-use Rattle.journal.proofs.BegunLemmas.{kept_more}
-use Rattle.journal.proofs.FollowLemmas.{followed_over, followed_inner}
+use Rattle.journal.proofs.FollowLemmas.{followed_begun, followed_over}
 use Rattle.journal.proofs.RefusedLemmas.{handed_on, refused_more}
 use Rattle.journal.proofs.follower.Follower.take_line.Goals as goal
 
@@ -29,13 +28,9 @@ returns-then-n-bytes-clause-follows g c = λ read first was.
     let n = c.inner-n.result in
     let begun = c.in_ok-begin_line.ensures in
     let all : take n bytes ≡ bytes = take_all n bytes (omega (arith, c.if-n-bytes.true)) in
-    rw all (record {
-      begun = was.begun ++ bytes;
-      read =
-          followed_inner g.M.Machine.moves read bytes first c.args.machine.now self.ends c.begin_line.new.self.ends was.begun (was.begun ++ bytes) self.is_over c.begin_line.new.self.is_over
-          was.read c.if-self.false (subst (AllByRecursion IsInner) all c.inner-n.ensures.inner) refl begun.whole begun.text begun.len begun.over;
-      line = kept_more g.M.Machine.too_long was.begun self.line.items bytes c.begin_line.new.self.line.items was.line (rw (← c.too_long.ensures) begun.line);
-    })
+    rw all
+    (followed_begun g.M.Machine.moves g.M.Machine.too_long read bytes first c.args.machine.now self c.begin_line.new.self was
+    c.if-self.false (subst (AllByRecursion IsInner) all c.inner-n.ensures.inner) (rw (← c.too_long.ensures) begun.line) begun.whole begun.text begun.len begun.over)
 
 pub returns-then-is_empty-clause-follows : goal.returns-then-is_empty-clause-follows
 returns-then-is_empty-clause-follows g c = λ read first was.
@@ -53,13 +48,9 @@ returns-clause-follows g c = λ read first was.
     let begun = c.in_ok-begin_line-2.ensures in
     let below : n < length bytes = omega (arith, c.if-n-bytes.false, c.inner-n.ensures.within) in
     rw (take_more bytes n 0 below, sym (append_assoc read (take n bytes) (get_or bytes n 0 ∷ [])))
-    (c.in_ok-end_line.ensures.follows (read ++ take n bytes) first (record {
-      begun = was.begun ++ take n bytes;
-      read =
-          followed_inner g.M.Machine.moves read (take n bytes) first c.args.machine.now self.ends c.begin_line-2.new.self.ends was.begun (was.begun ++ take n bytes) self.is_over c.begin_line-2.new.self.is_over
-          was.read c.if-self.false c.inner-n.ensures.inner refl begun.whole begun.text begun.len begun.over;
-      line = kept_more g.M.Machine.too_long was.begun self.line.items (take n bytes) c.begin_line-2.new.self.line.items was.line (rw (← c.too_long-2.ensures) begun.line);
-    }))
+    (c.in_ok-end_line.ensures.follows (read ++ take n bytes) first
+    (followed_begun g.M.Machine.moves g.M.Machine.too_long read (take n bytes) first c.args.machine.now self c.begin_line-2.new.self was
+    c.if-self.false c.inner-n.ensures.inner (rw (← c.too_long-2.ensures) begun.line) begun.whole begun.text begun.len begun.over))
 
 pub returns-in_err-do_line-clause-refused : goal.returns-in_err-do_line-clause-refused
 returns-in_err-do_line-clause-refused g c =
@@ -93,10 +84,6 @@ returns-in_err-end_line-clause-refused g c =
     refused_more g.M.Machine.moves g.M.Machine.IsBad (read ++ bytes) ((read ++ take n bytes) ++ byte ∷ []) (drop (n + 1) bytes) first c.in_err-end_line.field-0.0
     (joined read bytes (take n bytes ++ byte ∷ []) (drop (n + 1) bytes) whole
     ∙ ap (λ (l : List ℕ). l ++ drop (n + 1) bytes) (sym (append_assoc read (take n bytes) (byte ∷ []))))
-    (c.in_err-end_line.ensures.refused (read ++ take n bytes) first (record {
-      begun = was.begun ++ take n bytes;
-      read =
-          followed_inner g.M.Machine.moves read (take n bytes) first c.args.machine.now self.ends c.begin_line-2.new.self.ends was.begun (was.begun ++ take n bytes) self.is_over c.begin_line-2.new.self.is_over
-          was.read c.if-self.false c.inner-n.ensures.inner refl begun.whole begun.text begun.len begun.over;
-      line = kept_more g.M.Machine.too_long was.begun self.line.items (take n bytes) c.begin_line-2.new.self.line.items was.line (rw (← c.too_long-2.ensures) begun.line);
-    })))
+    (c.in_err-end_line.ensures.refused (read ++ take n bytes) first
+    (followed_begun g.M.Machine.moves g.M.Machine.too_long read (take n bytes) first c.args.machine.now self c.begin_line-2.new.self was
+    c.if-self.false c.inner-n.ensures.inner (rw (← c.too_long-2.ensures) begun.line) begun.whole begun.text begun.len begun.over)))
