@@ -44,12 +44,14 @@ if [ "$#" -gt 1 ] || [ "${1:-program}" != program ]; then
   exit 1
 fi
 if [ "$install" = yes ] && [ "$(id -u)" = 0 ] && command -v apt-get > /dev/null; then installed; fi
+# These parts need only the program, so that the library for C can be built beside them.
+first=(options streams bytes waiting views memory journal shell refused_program refused_starts refused_tests)
 if [ "${1:-all}" = all ]; then
   counted rt ci
-  crates/hlr_c/archive.sh > "$room/out" || fail 'crates/hlr_c/archive.sh'
+  first+=(archive)
 fi
-parts examples readme docs options streams bytes waiting views memory journal journal_c threads library blocks dist python \
-  live shell refused_program refused_starts refused_library refused_tests
+parts "${first[@]}"
+parts examples readme docs journal_c threads library blocks dist python live refused_library
 # A thread that is woken has to run within 5 ms for wakes to see that it was woken too early. The servers of redis choose
 # another master where one doesn't answer in time, and its tests count what is written within a fraction of a second.
 parts_alone wakes redis

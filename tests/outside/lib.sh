@@ -109,7 +109,7 @@ counted() {
 }
 
 # The parts that take longest, which begin first, so that little is left to do at the end.
-longest=(journal_c journal refused_tests refused_program dist library python readme blocks live shell views)
+longest=(archive journal_c journal refused_tests refused_program dist library python readme blocks live shell views)
 # The names of the parts that run, by their processes; the statuses of those that have ended, by their names; and the names
 # of those of which nothing is printed yet, in the order of the list.
 declare -A part_of=() status_of=()
