@@ -3,12 +3,8 @@
 //! are lost when the program ends, unless a journal keeps them.
 #![tactic(auto)]
 
-ghost use Rattle.std.specs.Prelude.{◌≡◌, ◌≢◌, [], IfErr, IfOk, Some};
-ghost use Rattle.journal_file.specs.Device.{LeavesOnly};
-ghost use Rattle.journal_file.specs.declared.fault.JournalFault.TheVariants.{NoJournal};
-ghost use Rattle.journal.specs.Lines.{HasFence};
-ghost use Rattle.hlr_kept.specs.Opened.{IsGivenBack};
-ghost use Rattle.hlr_kept.specs.Rows.{HasRowsOf, IsGivenUp, book_of};
+ghost use Rattle.std.specs.Prelude.{◌≡◌, [], IfErr, IfOk};
+ghost use Rattle.hlr_kept.specs.Opened.{HasItsRows, IsGivenBack};
 ghost use Rattle.hlr_kept.specs.UnderWay.{IsReady, IsUnderWay};
 ghost use Rattle.hlr_owners.specs.Owners.{book_in, store_in};
 
@@ -145,18 +141,8 @@ fn open_journaled<U: Unread + Drop>(
     requires unread { U.read unread ≡ [] }
     ensures ready { IfOk result (λ now. IsReady U.File.seen U.File.may_leave now) }
     ensures settled { IfOk result (λ now. IsUnderWay U.File.seen U.File.may_leave (store_in now.register) [] [] now) }
-    // The rows are those of the bytes that were read to the end of the file, and a crash at any moment since then leaves a
-    // file with the same rows.
-    ensures rows { IfOk result (λ now. (last : U) × U.IsReadOn unread last × U.IsRead last × (book_of (U.read last) ≡ Some (book_in now.register.owners))
-        × LeavesOnly U.File.moment U.File.left_since (U.file last) now.journal.tape.device (λ c. HasFence c × (book_of c ≡ book_of (U.read last)))) }
-    // A file that isn't opened comes back. If all of it was read, a crash at any moment since then leaves the same rows, in
-    // a file that can be opened if this one could.
-    ensures given_back { IfErr result (λ back. IsGivenBack
-        (λ file. U.IsReadOn unread file × IsGivenUp (U.faults unread) (U.faults file) (U.read file) back.why × (back.why ≢ NoJournal))
-        (λ file. (last : U) × U.IsReadOn unread last × U.IsRead last
-        × LeavesOnly U.File.moment U.File.left_since (U.file last) file (HasRowsOf (U.read last))
-        × IsGivenUp (U.faults last) (U.File.faults file) (U.read last) back.why)
-        back.file) }
+    ensures rows { IfOk result (λ now. HasItsRows U.IsReadOn U.IsRead U.read U.file U.File.moment U.File.left_since unread (book_in now.register.owners) now.journal.tape.device) }
+    ensures given_back { IfErr result (λ back. IsGivenBack U.IsReadOn U.IsRead U.read U.file U.File.moment U.File.left_since U.faults U.File.faults unread back.why back.file) }
 {
     match Register::open(alloc, options.parts, options.width) {
         Ok(register) => hlr_kept::open(alloc, register, unread),

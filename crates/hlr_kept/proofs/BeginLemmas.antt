@@ -76,6 +76,7 @@ module _ {D : Type 0} (seen : D → List ℕ) (may_leave : D → List ℕ → Ty
       }
 
 module _ {D : Type 0} (seen : D → List ℕ) (moment : D → ℕ) (left_since : D → ℕ → List ℕ → Type 0) (old : D) where
+  -- a file has the rows of the old one
   abbrev pub Stays : List ℕ → Type 0
   Stays = HasRowsOf (seen old)
 

@@ -14,7 +14,7 @@ ghost use Rattle.edit_lines.specs.Reading.{first_checked};
 ghost use Rattle.hlr_owners.specs.Owners.{AllHome, book_in, store_in};
 ghost use Rattle.hlr_owners.specs.Store.{Store};
 ghost use Rattle.hlr_kept.specs.Keeping.{IsSettled, StandsFor};
-ghost use Rattle.hlr_kept.specs.Opened.{IsGivenBack};
+ghost use Rattle.hlr_kept.specs.Opened.{HasItsRows, IsGivenBack};
 ghost use Rattle.hlr_kept.specs.Restored.{IsBadFor, Restores};
 ghost use Rattle.hlr_kept.specs.Rows.{HasOtherRows, HasRowsOf, IsGivenUp, IsNotOpened, book_of};
 ghost use Rattle.hlr_kept.specs.UnderWay.{IsReady, IsUnderWay};
@@ -174,22 +174,12 @@ pub fn open_journal<U: Unread + Drop>(
     requires rows { book_in register.owners ≡ empty_book }
     requires home { AllHome register.owners }
     requires pieces { pieces_of register.regions ≡ [] }
-    // The rows are those of the bytes that were read to the end of the file, all of them are on the disk, and a crash at
-    // any moment since then leaves a file with the same rows.
-    ensures rows { IfOk result (λ both. (last : U) × U.IsReadOn unread last × U.IsRead last × (book_of (U.read last) ≡ Some (book_in both.0.owners))
-        × LeavesOnly U.File.moment U.File.left_since (U.file last) both.1.tape.device (λ c. HasFence c × (book_of c ≡ book_of (U.read last)))) }
+    ensures rows { IfOk result (λ both. HasItsRows U.IsReadOn U.IsRead U.read U.file U.File.moment U.File.left_since unread (book_in both.0.owners) both.1.tape.device) }
     ensures stays { IfOk result (λ both. HasOtherRows register both.0) }
     ensures home { IfOk result (λ both. AllHome both.0.owners) }
     ensures stands { IfOk result (λ both. StandsFor U.File.seen U.File.may_leave (book_in both.0.owners) both.1) }
     ensures settled { IfOk result (λ both. IsSettled both.1) }
-    // A file that isn't opened comes back. If all of it was read, a crash at any moment since then leaves the same rows, in
-    // a file that can be opened if this one could.
-    ensures given_back { IfErr result (λ back. IsGivenBack
-        (λ file. U.IsReadOn unread file × IsGivenUp (U.faults unread) (U.faults file) (U.read file) back.why × (back.why ≢ NoJournal))
-        (λ file. (last : U) × U.IsReadOn unread last × U.IsRead last
-        × LeavesOnly U.File.moment U.File.left_since (U.file last) file (HasRowsOf (U.read last))
-        × IsGivenUp (U.faults last) (U.File.faults file) (U.read last) back.why)
-        back.file) }
+    ensures given_back { IfErr result (λ back. IsGivenBack U.IsReadOn U.IsRead U.read U.file U.File.moment U.File.left_since U.faults U.File.faults unread back.why back.file) }
 {
     let mut unread = unread;
     let (register, ends) = match restore(alloc, register, &mut unread) {
@@ -247,18 +237,12 @@ pub fn open<U: Unread + Drop>(
     requires rows { book_in register.owners ≡ empty_book }
     requires home { AllHome register.owners }
     requires pieces { pieces_of register.regions ≡ [] }
-    ensures rows { IfOk result (λ now. (last : U) × U.IsReadOn unread last × U.IsRead last × (book_of (U.read last) ≡ Some (book_in now.register.owners))
-        × LeavesOnly U.File.moment U.File.left_since (U.file last) now.journal.tape.device (λ c. HasFence c × (book_of c ≡ book_of (U.read last)))) }
+    ensures rows { IfOk result (λ now. HasItsRows U.IsReadOn U.IsRead U.read U.file U.File.moment U.File.left_since unread (book_in now.register.owners) now.journal.tape.device) }
     ensures stays { IfOk result (λ now. HasOtherRows register now.register) }
     ensures settled { IfOk result (λ now. IsUnderWay U.File.seen U.File.may_leave (store_in now.register) [] [] now) }
     ensures ready { IfOk result (λ now. IsReady U.File.seen U.File.may_leave now) }
     ensures pieces { IfOk result (λ now. pieces_of now.register.regions ≡ []) }
-    ensures given_back { IfErr result (λ back. IsGivenBack
-        (λ file. U.IsReadOn unread file × IsGivenUp (U.faults unread) (U.faults file) (U.read file) back.why × (back.why ≢ NoJournal))
-        (λ file. (last : U) × U.IsReadOn unread last × U.IsRead last
-        × LeavesOnly U.File.moment U.File.left_since (U.file last) file (HasRowsOf (U.read last))
-        × IsGivenUp (U.faults last) (U.File.faults file) (U.read last) back.why)
-        back.file) }
+    ensures given_back { IfErr result (λ back. IsGivenBack U.IsReadOn U.IsRead U.read U.file U.File.moment U.File.left_since U.faults U.File.faults unread back.why back.file) }
 {
     let (register, journal) = open_journal(alloc, register, unread)?;
     Ok(Journaled {

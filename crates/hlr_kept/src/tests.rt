@@ -373,7 +373,7 @@ fn make_call(file: &mut Vec<u8>, call: &Owed, lost: u32) -> Result<(), Fail> {
         file.resize(to, 0)?;
     }
     for (place, at) in (call.from..to).enumerate() {
-        let is_lost = lost >> place.min(31) as u32 & 1 == 1;
+        let is_lost = (lost >> place.min(31) as u32) & 1 == 1;
         if let Some(byte) = file.get_mut(at) {
             if !is_lost {
                 *byte = call.bytes.get(place).copied().unwrap_or(0);
