@@ -34,6 +34,15 @@ installed() {
   fi
 }
 
+# jobs: prints how many proofs may run at once: one for each processor, and for each 5 GB of memory that are free.
+jobs() {
+  {
+    nproc
+    awk '/^MemAvailable:/ { print int($2 / 5e6) }' /proc/meminfo
+    cat /sys/fs/cgroup/memory.max /sys/fs/cgroup/memory/memory.limit_in_bytes 2> /dev/null | awk '/^[0-9]+$/ { print int($1 / 5e9) }'
+  } | sort -n | head -n 1
+}
+
 install=yes
 if [ "${1:-}" = --no-install ]; then
   install=no
@@ -47,6 +56,11 @@ if [ "$install" = yes ] && [ "$(id -u)" = 0 ] && command -v apt-get > /dev/null;
 # These parts need only the program, so that the library for C can be built beside them.
 first=(options streams bytes waiting views memory journal shell refused_program refused_starts refused_tests)
 if [ "${1:-all}" = all ]; then
+  # By itself rt ci reckons with up to three times as much memory for a proof, and leaves processors idle for lack of it.
+  if [ -z "${RT_JOBS:-}" ] && [ "$(jobs)" -ge 2 ]; then
+    RT_JOBS=$(jobs)
+    export RT_JOBS
+  fi
   counted rt ci
   first+=(archive)
 fi
