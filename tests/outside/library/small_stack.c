@@ -1,7 +1,7 @@
-/* Calls in threads with a stack of STACK_KB and no byte more: a page that can't be touched lies below it. The first one
- * has a day of examples/library/day.c, whose main is day_main here; the second one a register whose trees are three levels
- * high, each call that changes many rows, a part that is lent, and a look. The C library keeps what it knows of a thread in
- * its stack too. */
+/* Calls in threads that have STACK_KB of stack for them, and a page for what the C library keeps of a thread there and for
+ * the functions around the calls. A page that can't be touched lies below. The first thread has a day of
+ * examples/library/day.c, whose main is day_main here; the second one a register whose trees are three levels high, each call
+ * that changes many rows, a part that is lent, and a look. */
 #define _GNU_SOURCE
 #include "hlr.h"
 #include <pthread.h>
@@ -161,7 +161,7 @@ static void *much(void *none) {
 
 /* What a thread with so small a stack answers. */
 static int in_thread(void *(*work)(void *)) {
-    size_t page = (size_t)sysconf(_SC_PAGESIZE), size = STACK_KB * 1024;
+    size_t page = (size_t)sysconf(_SC_PAGESIZE), size = STACK_KB * 1024 + page;
     char *stack = mmap(NULL, page + size, PROT_READ | PROT_WRITE, MAP_PRIVATE | MAP_ANONYMOUS | MAP_STACK, -1, 0);
     pthread_attr_t how;
     pthread_t thread;

@@ -20,7 +20,7 @@ def bounded(module):
     one = server.connection()
     added(one, "m", filling(Model(), random.Random(1), 2000))
     used, told = info(one, "memory")["used_memory"], one("MEMORY", "USAGE", "m")
-    check("used_memory has the register", 800_000 < told < used, (told, used))
+    check("used_memory has the register", 500_000 < told < used, (told, used))
     server.set("maxmemory", used - told // 2)
     sub, row = (3000, 3000, "0" * 10, "0" * 10, "0" * 20, 1, 1), one("HLR.GSD", "m", 1)
     kind = next(kind for kind in range(1, 5) if one("HLR.GFD", "m", 1, kind))
@@ -98,9 +98,9 @@ def unchanged(one):
 
 def many(one, replica):
     """HLR.ADD is refused memory in its midst: the rows before stay, none behind is added, and the replica has the same."""
-    records = list(filling(Model(), random.Random(6), 40).records())
+    records = list(filling(Model(), random.Random(6), 120).records())
     refusals = set()
-    for place in range(0, 200, 3):
+    for place in range(200):
         one("DEL", "a")
         one("HLR.CREATE", "a")
         one("HLR.REFUSE", place)
