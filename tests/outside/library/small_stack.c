@@ -1,9 +1,10 @@
-/* Calls in threads that have STACK_KB of stack for them, and a page for what the C library keeps of a thread there and for
- * the functions around the calls. A page that can't be touched lies below. The first thread has a day of
+/* Calls in threads that have STACK_KB of stack left for them and for the functions around them, and no byte more: a page
+ * that can't be touched lies below, and the C library keeps what it knows of a thread above. The first thread has a day of
  * examples/library/day.c, whose main is day_main here; the second one a register whose trees are three levels high, each call
  * that changes many rows, a part that is lent, and a look. */
 #define _GNU_SOURCE
 #include "hlr.h"
+#include <alloca.h>
 #include <pthread.h>
 #include <stdint.h>
 #include <stdio.h>
@@ -159,16 +160,32 @@ static void *much(void *none) {
     return (void *)(intptr_t)looked();
 }
 
+/* What a thread does, and where its stack ends. */
+static void *(*task)(void *);
+static char *end;
+
+/* Does it where STACK_KB are left. */
+static void *begun(void *none) {
+    size_t left = (size_t)((char *)__builtin_frame_address(0) - end);
+    volatile char *unused = alloca(left - STACK_KB * 1024);
+    unused[0] = 0;
+    void *answer = task(none);
+    unused[0] = 1;
+    return answer;
+}
+
 /* What a thread with so small a stack answers. */
 static int in_thread(void *(*work)(void *)) {
-    size_t page = (size_t)sysconf(_SC_PAGESIZE), size = STACK_KB * 1024 + page;
+    size_t page = (size_t)sysconf(_SC_PAGESIZE), size = STACK_KB * 1024 + 4 * page;
     char *stack = mmap(NULL, page + size, PROT_READ | PROT_WRITE, MAP_PRIVATE | MAP_ANONYMOUS | MAP_STACK, -1, 0);
     pthread_attr_t how;
     pthread_t thread;
     void *answer;
     if (stack == MAP_FAILED || mprotect(stack, page, PROT_NONE)) return 2;
     if (pthread_attr_init(&how) || pthread_attr_setstack(&how, stack + page, size)) return 2;
-    if (pthread_create(&thread, &how, work, NULL) || pthread_join(thread, &answer)) return 2;
+    task = work;
+    end = stack + page;
+    if (pthread_create(&thread, &how, begun, NULL) || pthread_join(thread, &answer)) return 2;
     return (int)(intptr_t)answer;
 }
 
