@@ -4,6 +4,7 @@ pub mod GroupsLemmas
 pub mod TreeLemmas
 pub mod PlacedLemmas
 pub mod TableLemmas
+pub mod WalkLemmas
 pub mod TypeLemmas
 pub mod AccessLemmas
 pub mod FacilityLemmas

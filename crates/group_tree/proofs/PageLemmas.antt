@@ -1,5 +1,5 @@
 -- The rows of groups one after another, from a key on.
-use Rattle.group_tree.proofs.Common.{AreGroupsAt, rows_beside, rows_in, length-map, ◌≡◌, ◌∙◌, refl, sym, ap, subst, ℕ, zero, suc, IfSome, ◌+◌, ◌*◌, ◌<◌, ◌≤◌, nat_le, true, false, Bool, List, [], ◌∷◌, ◌++◌, length, map, take, get_or, take_all, take_more, Option, Some, None, arith, append_assoc, append-nil, length-append, length-take, AllByRecursion, filter, nat_tests, filter-append, each-weaker, each-left, by_test, keys_from, IsOrderedBy, key_of_pair, value_at, below-weaker, from-weaker, key_limit, AreGroups, base_of, rows_of, IsPage, FoldsRows, folds_append, Bor}
+use Rattle.group_tree.proofs.Common.{AreGroupsAt, rows_beside, rows_in, length-map, ◌≡◌, ◌∙◌, refl, sym, ap, subst, ℕ, zero, suc, IfSome, ◌+◌, ◌*◌, ◌<◌, ◌≤◌, nat_le, true, false, Bool, List, [], ◌∷◌, ◌++◌, length, map, take, get_or, take_more, Option, Some, None, arith, append_assoc, append-nil, length-append, length-take, AllByRecursion, filter, nat_tests, filter-append, each-weaker, each-left, by_test, keys_from, IsOrderedBy, key_of_pair, value_at, below-weaker, from-weaker, key_limit, AreGroups, base_of, rows_of, IsPage, FoldsRows, folds_append, Bor}
 use Rattle.group_tree.proofs.BaseLemmas.{base_base, base_high, base_low}
 use Rattle.group_tree.proofs.GroupsLemmas.{Around, HaveLaws, IsFilled, rows_below, rows_from, rows_of-append}
 use Rattle.group_tree.proofs.TreeLemmas.{all_kept, beside, front_gone, its_rules, its_value, none_beside, none_there, some_beside}
@@ -53,15 +53,6 @@ pub pushed_room : {R : Type 0} (before : List (ℕ × R)) (key : ℕ) (rows : Li
 pushed_room before key rows i page so_far within room =
     let few = filter_fewer (λ p. nat_le key (key_of_pair p)) (take i rows) in
     rw so_far (omega (arith, few, within, room, length-append before (keys_from key_of_pair key (take i rows)), length-take i rows))
-
--- a walk goes on with the next row
-pub walked_more : {V A : Type 0} (Gives : A → ℕ → Bor V → A → Type 0) (a m b : A) (i : ℕ) (r : Bor V) (k : ℕ) (rows : List (ℕ × V)) → i < length rows → (k, r.now) ≡ get_or rows i (k, r.now) → FoldsRows Gives a (take i rows) m → Gives m k r b → FoldsRows Gives a (take (i + 1) rows) b
-walked_more Gives a m b i r k rows within read front one =
-    subst (λ rows. FoldsRows Gives a rows b) (sym (take_more rows i (k, r.now) within ∙ ap (λ q. take i rows ++ (q ∷ [])) (sym read)))
-    (folds_append Gives a m b (take i rows) ((k, r.now) ∷ []) front (b, r, refl, one, refl))
-
-pub walked_all : {V A : Type 0} (Gives : A → ℕ → Bor V → A → Type 0) (a b : A) (i : ℕ) (rows : List (ℕ × V)) → length rows ≤ i → FoldsRows Gives a (take i rows) b → FoldsRows Gives a rows b
-walked_all Gives a b i rows past h = subst (λ rows. FoldsRows Gives a rows b) (take_all i rows past) h
 
 -- what holds of each holds of one that is read, and of the first ones
 pub each_at : {X : Type 0} (P : X → Type 0) (xs : List X) (i : ℕ) (x : X) → AllByRecursion P xs → i < length xs → x ≡ get_or xs i x → P x

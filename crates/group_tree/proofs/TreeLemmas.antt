@@ -1,5 +1,5 @@
 -- What the calls of a tree of groups say of its rows.
-use Rattle.group_tree.proofs.Common.{◌≡◌, ◌∙◌, refl, sym, ap, subst, ℕ, ◌+◌, ◌*◌, ◌<◌, ◌≤◌, ◌≢◌, List, [], ◌∷◌, ◌++◌, length, Option, Some, None, option_map, IsSome, is_some, arith, append-nil, AllByRecursion, nat_tests, filter-append, filter_all, filter_none, each-weaker, keys_below, keys_from, rows_beside, with_row_at_absent, without_row_absent, length-with_row_at, IsHeightOf, IsHeightOfGroups, length-append, IfErr, IfSome, revised_at, unwrap_or, row_at, with_row, with_row_at, without_row, each-with_row, each-with_row_at, each-without_row, ordered-with_row, ordered-with_row_at, ordered-without_row, from-weaker, length-with_row, with_row-front, with_row-skip, with_row_at-here, without_row-here, KeysBelow, KeysFrom, key_of_pair, value_at, AreGroups, base_of, rows_of, Result, Ok, Err, if◌then◌else◌, Bor, each-append, Back, Refusal, Exists, Memory, IsInserted}
+use Rattle.group_tree.proofs.Common.{◌≡◌, ◌∙◌, refl, sym, ap, subst, ℕ, ◌+◌, ◌*◌, ◌<◌, ◌≤◌, ◌≢◌, List, [], ◌∷◌, ◌++◌, length, Option, Some, None, option_map, IsSome, is_some, arith, append-nil, AllByRecursion, nat_tests, filter-append, filter_all, filter_none, each-weaker, keys_below, keys_from, rows_beside, with_row_at_absent, without_row_absent, length-with_row_at, IsHeightOf, IsHeightOfGroups, length-append, IfErr, IfSome, row_at, with_row, with_row_at, without_row, each-with_row, each-with_row_at, each-without_row, ordered-with_row, ordered-with_row_at, ordered-without_row, from-weaker, length-with_row, with_row-front, with_row-skip, with_row_at-here, without_row-here, KeysBelow, KeysFrom, key_of_pair, value_at, AreGroups, base_of, rows_of, Result, Ok, Err, if◌then◌else◌, Bor, each-append, Back, Refusal, Exists, Memory, IsInserted}
 use Rattle.group_tree.proofs.BaseLemmas.{base_base}
 use Rattle.group_tree.proofs.GroupsLemmas.{Around, HaveLaws, IsFilled, around, found_beside, group_at, put_beside, removed_beside, replaced_beside, rows_below, rows_from, rows_of-append}
 
@@ -267,16 +267,11 @@ module _ {G R : Type 0} {listed : ℕ → G → List (ℕ × R)} {Holds : ℕ �
       subst (λ x. IfErr x (λ back. back.why ≡ Memory → 32 ≤ length (rows_of listed groups))) (sym same)
       (λ why. let low = fewer_groups groups are.each in let wanted = h why in omega arith)
 
+  -- a tree of so few rows has as few groups
+  pub few_of_rows : (groups : List (ℕ × G)) → AreGroups listed Holds groups → length (rows_of listed groups) < 32 → length groups < 32
+  few_of_rows groups are few = let low = fewer_groups groups are.each in omega arith
+
 -- what is known of any refusal
 pub of_refusal : {R : Type 0} (P : Type 0) (given : Result (Unit {0}) (Back R)) → P → IfErr given (λ back. back.why ≡ Memory → P)
 of_refusal P (Ok u) p = tt
 of_refusal P (Err back) p = λ why. p
-
--- a row that is revised and keeps its key
-pub revised_row : {R : Type 0} (row_key : R → ℕ) (key : ℕ) (change : R → R) (rows : List (ℕ × R)) (row new : R) → Some row ≡ value_at key rows → IfSome (value_at key rows) (λ r. row_key (change r) ≡ key) → new ≡ change row
-    → with_row_at key_of_pair (row_key new) (row_key new, new) rows ≡ revised_at key change rows
-revised_row row_key key change rows row new found keeps is =
-    let same : row_key (change row) ≡ key = subst (λ o. IfSome o (λ r. row_key (change r) ≡ key)) (sym found) keeps in
-    ap (λ x. with_row_at key_of_pair (row_key x) (row_key x, x) rows) is
-    ∙ ap (λ (k : ℕ). with_row_at key_of_pair k (k, change row) rows) same
-    ∙ ap (λ o. unwrap_or (option_map (λ v. with_row_at key_of_pair key (key, change v) rows) o) rows) found

@@ -62,8 +62,8 @@ abbrev pub rows_in : {G R : Type 0} → (ℕ → G → List (ℕ × R)) → ℕ 
 rows_in listed base None = []
 rows_in listed base (Some group) = listed base group
 
--- one for each of some keys, in their order: the group to which the key belongs, which has all rows of its span, or
--- none where these are none
+-- Groups were found for keys, one for each key in the order of the keys. Each has all rows in the span of its key. Where
+-- there are no such rows, there is no group, or one without rows.
 pub record AreGroupsAt {G R : Type 0} (span : ℕ) (listed : ℕ → G → List (ℕ × R)) (rows : List (ℕ × R)) (keys : List ℕ) (found : List (Option G)) : Type 0 where
   pub count : length found ≡ length keys
   pub each : (n : ℕ) → n < length keys → rows_in listed (base_of span (slice_index keys n)) (slice_index_or found n None) ≡ rows_beside span (slice_index keys n) rows

@@ -32,7 +32,7 @@ listed-ordered key_at place with rising (row ∷ rows) ordered = (
 )
 
 -- a forwarding starts at an eighth of 0, 1 or 2
-start_eighth : (n : ℕ) → is_start_time n ≡ true → (8 * (n / 8) ≡ n) × (n / 8 < 3)
+pub start_eighth : (n : ℕ) → is_start_time n ≡ true → (8 * (n / 8) ≡ n) × (n / 8 < 3)
 start_eighth n is =
     by_test (n == 0)
     (λ t. let zero : n ≡ 0 = grind (arith, nat_tests) in (omega arith, omega arith))

@@ -3,7 +3,7 @@ ghost use Rattle.std.specs.Prelude.{◌≡◌, ◌≤◌, length};
 ghost use Rattle.mr_node.specs.Folds.{WalksRows};
 ghost use Rattle.group_tree.specs.Tables.{HoldsAccesses, accesses_listed};
 
-use crate::group::{Group, Row, keyed, push_from, walk_rows};
+use crate::group::{Group, Row, keyed, push_from};
 use crate::tree::GroupTree;
 use arrayvec::ArrayVec;
 use row_groups::Accesses;
@@ -21,6 +21,23 @@ fn rows_at(group: &Accesses, base: u64) -> ArrayVec<(u64, Access), 4>
     }
     let rows = group.rows_from(s_id as u32, 0);
     keyed(rows.as_slice())
+}
+
+/// Hands each row of a group that lies at a key, in the order of keys, to a closure, together with what the closure
+/// writes to. If that is no key of a group, it hands over none.
+fn walk_places<A, F: Fn(&mut A, u64, &Access)>(group: &Accesses, base: u64, so_far: &mut A, f: &F)
+    requires { F.IsAlwaysCallable f.now }
+    ensures { HoldsAccesses base group.now → WalksRows (λ a k r b. F.post f.now a k r tt b) so_far.old (accesses_listed base group.now) so_far.new }
+{
+    let s_id = base / 65_536;
+    if s_id == 0 || s_id > u64::from(LAST_SUBSCRIBER) {
+        return;
+    }
+    for ai_type in 1..5_u8 {
+        if let Some(row) = group.get(s_id as u32, ai_type) {
+            f(so_far, base + 256 * u64::from(ai_type), &row);
+        }
+    }
 }
 
 impl Row for Access {
@@ -102,7 +119,7 @@ impl GroupTree<Access, Accesses> {
         let walk_group = |so_far: &mut A, base: u64, group: &Accesses|
             requires { F.IsAlwaysCallable f.now }
             ensures { HoldsAccesses base group.now → WalksRows (λ a k r b. F.post f.entry.now a k r tt b) so_far.old (accesses_listed base group.now) so_far.new }
-        { walk_rows(rows_at(group, base).as_slice(), so_far, f) };
+        { walk_places(group, base, so_far, f) };
         self.groups.walk(so_far, &walk_group);
     }
 }

@@ -7,7 +7,7 @@ ghost use Rattle.mr_node.specs.Rows.{value_at};
 ghost use Rattle.group_tree.specs.Tables.{HoldsFacilities, facilities_listed};
 
 use crate::facility_change::FacilityChange;
-use crate::group::{Group, Row, keyed, push_from, walk_rows};
+use crate::group::{Group, Row, keyed, push_from};
 use crate::tree::GroupTree;
 use arrayvec::ArrayVec;
 use mr_node::Revise;
@@ -26,6 +26,28 @@ fn rows_at(group: &Facilities, base: u64) -> ArrayVec<(u64, Facility), 4>
     }
     let rows = group.rows_from(s_id as u32, 0);
     keyed(rows.as_slice())
+}
+
+/// Hands each row of a group that lies at a key, in the order of keys, to a closure, together with what the closure
+/// writes to. If that is no key of a group, it hands over none.
+fn walk_places<A, F: Fn(&mut A, u64, &Facility)>(
+    group: &Facilities,
+    base: u64,
+    so_far: &mut A,
+    f: &F,
+)
+    requires { F.IsAlwaysCallable f.now }
+    ensures { HoldsFacilities base group.now → WalksRows (λ a k r b. F.post f.now a k r tt b) so_far.old (facilities_listed base group.now) so_far.new }
+{
+    let s_id = base / 65_536;
+    if s_id == 0 || s_id > u64::from(LAST_SUBSCRIBER) {
+        return;
+    }
+    for sf_type in 1..5_u8 {
+        if let Some(row) = group.get(s_id as u32, sf_type) {
+            f(so_far, base + 256 * u64::from(sf_type), &row);
+        }
+    }
 }
 
 impl Row for Facility {
@@ -138,7 +160,7 @@ impl GroupTree<Facility, Facilities> {
         let walk_group = |so_far: &mut A, base: u64, group: &Facilities|
             requires { F.IsAlwaysCallable f.now }
             ensures { HoldsFacilities base group.now → WalksRows (λ a k r b. F.post f.entry.now a k r tt b) so_far.old (facilities_listed base group.now) so_far.new }
-        { walk_rows(rows_at(group, base).as_slice(), so_far, f) };
+        { walk_places(group, base, so_far, f) };
         self.groups.walk(so_far, &walk_group);
     }
 }

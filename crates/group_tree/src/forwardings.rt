@@ -3,7 +3,7 @@ ghost use Rattle.std.specs.Prelude.{◌≡◌, ◌≤◌, length};
 ghost use Rattle.mr_node.specs.Folds.{WalksRows};
 ghost use Rattle.group_tree.specs.Tables.{HoldsForwardings, forwardings_listed};
 
-use crate::group::{Group, Row, keyed, push_from, walk_rows};
+use crate::group::{Group, Row, keyed, push_from};
 use crate::tree::GroupTree;
 use arrayvec::ArrayVec;
 use row_groups::Forwardings;
@@ -22,6 +22,30 @@ fn rows_at(group: &Forwardings, base: u64) -> ArrayVec<(u64, Forwarding), 4>
     }
     let rows = group.rows_from(s_id as u32, sf_type, 0);
     keyed(rows.as_slice())
+}
+
+/// Hands each row of a group that lies at a key, in the order of keys, to a closure, together with what the closure
+/// writes to. If that is no key of a group, it hands over none.
+fn walk_places<A, F: Fn(&mut A, u64, &Forwarding)>(
+    group: &Forwardings,
+    base: u64,
+    so_far: &mut A,
+    f: &F,
+)
+    requires { F.IsAlwaysCallable f.now }
+    ensures { HoldsForwardings base group.now → WalksRows (λ a k r b. F.post f.now a k r tt b) so_far.old (forwardings_listed base group.now) so_far.new }
+{
+    let s_id = base / 65_536;
+    let sf_type = (base / 256 % 256) as u8;
+    if s_id == 0 || s_id > u64::from(LAST_SUBSCRIBER) || !is_between(sf_type, 1, 4) {
+        return;
+    }
+    for place in 0..3_u8 {
+        let start_time = 8 * place;
+        if let Some(row) = group.get(s_id as u32, sf_type, start_time) {
+            f(so_far, base + u64::from(start_time), &row);
+        }
+    }
 }
 
 impl Row for Forwarding {
@@ -106,7 +130,7 @@ impl GroupTree<Forwarding, Forwardings> {
         let walk_group = |so_far: &mut A, base: u64, group: &Forwardings|
             requires { F.IsAlwaysCallable f.now }
             ensures { HoldsForwardings base group.now → WalksRows (λ a k r b. F.post f.entry.now a k r tt b) so_far.old (forwardings_listed base group.now) so_far.new }
-        { walk_rows(rows_at(group, base).as_slice(), so_far, f) };
+        { walk_places(group, base, so_far, f) };
         self.groups.walk(so_far, &walk_group);
     }
 }

@@ -2,7 +2,6 @@
 ghost use Rattle.std.specs.Prelude.{◌≡◌, ◌∷◌, [], ◌<◌, ◌≤◌, ◌+◌, ◌++◌, ℕ, List, length, map};
 ghost use Rattle.tatp_rows.specs.Ordered.{without_row};
 ghost use Rattle.tatp_rows.specs.Spans.{keys_from};
-ghost use Rattle.mr_node.specs.Folds.{WalksRows};
 ghost use Rattle.mr_node.specs.Rows.{key_limit, key_of_pair, value_at};
 ghost use Rattle.group_tree.specs.Groups.{IsGroupAt, IsPutAt, IsReplacedAt, base_of};
 
@@ -87,17 +86,6 @@ pub(crate) fn keyed<R: Row>(rows: &[R]) -> ArrayVec<(u64, R), 4>
         pairs.push((rows[place].key(), rows[place]));
     }
     pairs
-}
-
-/// Hands rows, in order, to a closure, together with what the closure writes to.
-pub(crate) fn walk_rows<R, A, F: Fn(&mut A, u64, &R)>(rows: &[(u64, R)], so_far: &mut A, f: &F)
-    requires { F.IsAlwaysCallable f.now }
-    ensures { WalksRows (λ a k r b. F.post f.now a k r tt b) so_far.old rows.now so_far.new }
-{
-    for place in 0..rows.len() {
-        let pair = &rows[place];
-        f(so_far, pair.0, &pair.1);
-    }
 }
 
 /// Appends the rows whose keys are this one or higher to a page that has room for all rows.

@@ -86,9 +86,9 @@ impl<R: Row, G: Group<R>> GroupTree<R, G> {
         push_groups(page, groups.as_slice());
     }
 
-    /// Puts the groups to which up to 16 keys belong into an empty list, one for each key in the order of the keys, with
-    /// `None` for a key whose group isn't there. A group has all rows whose keys lie in its span. The keys are looked up
-    /// with overlapping memory accesses.
+    /// Puts the groups to which up to 16 keys belong into an empty list, one for each key in the order of the keys. A
+    /// group has all rows whose keys lie in its span, and where there are none, it is `None` or has no rows. The keys are
+    /// looked up with overlapping memory accesses.
     pub fn copy_groups(&self, keys: &[u64], found: &mut ArrayVec<Option<G>, 16>)
         requires few { length keys.now ≤ 16 }
         requires empty { found.old.items ≡ [] }

@@ -1,13 +1,11 @@
 //! The tree of groups.
-ghost use Rattle.std.specs.Prelude.{◌≡◌, ◌<◌, ◌≤◌, [], length, is_some, ok_or, None, IfErr, IfOk, IfSome, OnErr};
+ghost use Rattle.std.specs.Prelude.{◌≡◌, ◌<◌, ◌≤◌, [], length, ok_or, None, IfErr, IfOk, IfSome, OnErr};
 ghost use Rattle.tatp_rows.specs.Ordered.{with_row_at, without_row};
 ghost use Rattle.mr_node.specs.Rows.{key_limit, key_of_pair, value_at};
-ghost use Rattle.mr_node.specs.Revisions.{revised_at, spent_at};
 ghost use Rattle.mr_subtree.specs.Trees.{IsInserted};
 ghost use Rattle.group_tree.specs.Groups.{IsHeightOfGroups, base_of, rows_beside};
 
 use crate::group::{Group, Row};
-use mr_node::Revise;
 use mr_subtree::SubTree;
 use std::alloc::Global;
 use std::marker::{Model, PhantomData};
@@ -82,15 +80,6 @@ impl<R: Row, G: Group<R>> GroupTree<R, G> {
         self.groups.get(G::base(key))
     }
 
-    /// Lends the group to which a key belongs, as `group` does. It is quicker than that in a dense tree, in the same
-    /// way as `get_by_guess`.
-    pub fn group_by_guess(&self, key: u64, shift: u32) -> Option<&G>
-        ensures found { IfSome result (λ group. G.listed (base_of G.span key) group.now ≡ rows_beside G.span key self.now.rows) }
-        ensures none { result ≡ None → rows_beside G.span key self.now.rows ≡ [] }
-    {
-        self.groups.get_by_guess(G::base(key), shift)
-    }
-
     /// Replaces the row with the key of this one, and returns the old one. If there is none, it hands the new one back.
     /// It takes no memory.
     pub fn replace(&mut self, row: R) -> Result<R, R>
@@ -108,22 +97,6 @@ impl<R: Row, G: Group<R>> GroupTree<R, G> {
             }
             None => Err(row),
         }
-    }
-
-    /// Changes the row at a key, which keeps its key. It returns false if there is none, and then nothing has changed.
-    /// It takes no memory.
-    pub fn revise<E: Revise<R>>(&mut self, key: u64, revision: &mut E) -> bool
-        requires { IfSome (value_at key self.old.rows) (λ row. R.row_key (E.revised revision.old row) ≡ key) }
-        ensures rows { self.new ≡ record self.old { rows = revised_at key (E.revised revision.old) self.old.rows } }
-        ensures spent { revision.new ≡ spent_at key E.spent revision.old self.old.rows }
-        ensures found { result ≡ is_some (value_at key self.old.rows) }
-    {
-        let Some(mut row) = self.get(key) else {
-            return false;
-        };
-        revision.revise(&mut row);
-        let _ = self.replace(row);
-        true
     }
 
     /// Removes the row at a key, and returns it. A group whose last row goes is removed from the tree. It takes no
@@ -151,6 +124,7 @@ impl<R: Row, G: Group<R>> GroupTree<R, G> {
         ensures kept { OnErr result (self.new ≡ self.old) }
         ensures first { IfErr result (λ back. back.why ≡ Refusal.Memory → rows_beside G.span (R.row_key row) self.old.rows ≡ []) }
         ensures memory { IfErr result (λ back. back.why ≡ Refusal.Memory → 32 ≤ length self.old.rows) }
+        ensures height { length self.old.rows < 32 → self.new.height ≡ self.old.height }
     {
         let base = G::base(row.key());
         let Some(mut group) = self.groups.get(base).copied() else {

@@ -29,8 +29,8 @@ impl Owners {
         }
     }
 
-    /// Returns the Access_Info row of a subscriber's access of a type in 1..=4. Its refusals, in order, are `Moving` and
-    /// `NoAccess`.
+    /// Returns the Access_Info row of a subscriber's access of a type in 1..=4. Its refusals, in order, are `Moving`
+    /// and `NoAccess`.
     pub fn lend_access(&self, s_id: u32, ai_type: u8) -> Result<Access, Refusal>
         requires subscriber { IsWithin 1 (LAST_SUBSCRIBER + 1) s_id }
         requires home { IsHomeFor s_id self.now }

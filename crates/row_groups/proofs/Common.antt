@@ -16,7 +16,7 @@ pub use Rattle.tatp_rows.proofs.RowLemmas.{between_is, both_from, facility_range
 pub use Rattle.tatp_rows.specs.Spans.{keys_from}
 pub use Rattle.tatp_rows.specs.declared.refusal.Refusal.TheVariants.{Exists}
 pub use Rattle.tatp_rows.specs.declared.refusal.Refusal.{Refusal}
-pub use Rattle.row_groups.specs.Groups.{AreAccesses, AreFacilities, AreForwardings, IsPut, end_of, forwarding_start, forwarding_with, is_in_time, access_type, access_with, facility_type, facility_with}
+pub use Rattle.row_groups.specs.Groups.{AreAccesses, AreFacilities, AreForwardings, IsPut, forwarding_start, forwarding_with, is_in_time, access_type, access_with, facility_type, facility_with}
 pub use Rattle.row_groups.specs.AccessPlaces.{access_back, access_data, access_keys, access_places, access_row}
 pub use Rattle.row_groups.specs.FacilityPlaces.{facility_back, facility_data, facility_keys, facility_places, facility_row, facility_row_back}
 pub use Rattle.row_groups.specs.ForwardingPlaces.{IsWord, fields_in, forwarding_at, forwarding_back, forwarding_data, forwarding_keys, forwarding_places, forwarding_row, word_of}

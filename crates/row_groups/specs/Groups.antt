@@ -1,6 +1,6 @@
 -- Groups of rows: the rows of one subscriber, or of one facility, in the order of their keys. A group doesn't keep to
 -- whom it belongs, so the fields that all of its rows share are 0 in it.
-use Rattle.std.specs.Prelude.{◌≡◌, ℕ, ◌≤◌, ◌==◌, ◌&&◌, nat_le, nat_lt, Bool, false, List, Result, Ok, Err, Option, None, Some, IsSome, IsTrue}
+use Rattle.std.specs.Prelude.{◌≡◌, ℕ, ◌≤◌, ◌&&◌, nat_le, nat_lt, Bool, List, Result, Ok, Err, None, IsSome, IsTrue}
 use Rattle.std.specs.List.{AllByRecursion}
 use Rattle.tatp_rows.specs.Ordered.{IsOrderedBy, row_at, with_row}
 use Rattle.tatp_rows.specs.Rows.{AccessInfoRow, SpecialFacilityRow, CallForwardingRow, is_start_time}
@@ -33,11 +33,6 @@ pub record AreFacilities (rows : List SpecialFacilityRow) : Type 0 where
   pub ordered : IsOrderedBy facility_type rows
   pub each : AllByRecursion (λ row. (row.s_id ≡ 0) × (1 ≤ row.sf_type) × (row.sf_type ≤ 4)) rows
 
--- a facility was found and is active
-abbrev pub is_found_active : Option SpecialFacilityRow → Bool
-is_found_active None = false
-is_found_active (Some row) = row.is_active == 1
-
 -- the key of a Call_Forwarding row among those of its facility
 abbrev pub forwarding_start : CallForwardingRow → ℕ
 forwarding_start row = row.start_time
@@ -54,11 +49,6 @@ pub record AreForwardings (rows : List CallForwardingRow) : Type 0 where
 -- a forwarding starts by one hour, and ends after another
 abbrev pub is_in_time : ℕ → ℕ → CallForwardingRow → Bool
 is_in_time start_time end_time row = nat_le row.start_time start_time && nat_lt end_time row.end_time
-
--- the hour at which a forwarding that was found ends, or 0 if none was
-abbrev pub end_of : Option CallForwardingRow → ℕ
-end_of None = 0
-end_of (Some row) = row.end_time
 
 -- a row is put among others, or is refused because there is one with its key
 abbrev pub IsPut : {X : Type 0} → (X → ℕ) → X → List X → List X → Result (Unit {0}) Refusal → Type 0

@@ -1,5 +1,5 @@
--- The places of a group, and the rows that lie in them. Each gives the other back, because a model whose values are copied
--- has to give back its fields.
+-- The places of a group, and the rows that lie in them. The rows tell the places as well, because a group may be copied,
+-- and a model of values that are copied has an inverse.
 use Rattle.std.specs.Prelude.{◌≡◌, refl, ℕ, zero, suc, ◌+◌, ◌<◌, ◌==◌, List, [], ◌∷◌, length, Option, Some, None, option_map, true, false}
 use Rattle.std.specs.List.{AllByRecursion}
 use Rattle.std.proofs.Common.{arith, drop, get_or, subst, sym}

@@ -131,7 +131,8 @@ impl Accesses {
         places[usize::from(ai_type) - 1]
     }
 
-    /// Returns the row of a type, as a row of the subscriber `s_id`, or `None` if there is none.
+    /// Returns the row of a type, as a row of the subscriber `s_id`, which is in 1..=16,777,216, or `None` if there is
+    /// none.
     pub fn get(&self, s_id: u32, ai_type: u8) -> Option<Access>
         requires { IsTrue (is_between 1 LAST_SUBSCRIBER s_id) }
         ensures { result ≡ option_map (access_with s_id) (row_at access_type ai_type self.now) }
@@ -140,7 +141,7 @@ impl Accesses {
         Some(data.row(s_id, ai_type))
     }
 
-    /// Returns the rows from a type on, in order, as rows of the subscriber `s_id`.
+    /// Returns the rows from a type on, in order, as rows of the subscriber `s_id`, which is in 1..=16,777,216.
     pub fn rows_from(&self, s_id: u32, ai_type: u8) -> ArrayVec<Access, 4>
         requires { IsTrue (is_between 1 LAST_SUBSCRIBER s_id) }
         ensures { result.items ≡ map (access_with s_id) (keys_from access_type ai_type self.now) }
@@ -170,7 +171,7 @@ impl Accesses {
     }
 
     /// Replaces the row of the same type, and returns it. If there is none, it returns `None`, and the group is as it
-    /// was.
+    /// was. It takes no memory.
     pub fn replace(&mut self, row: &Access) -> Option<Access>
         ensures value { result ≡ option_map (access_with row.now.s_id) (row_at access_type row.now.ai_type self.old) }
         ensures rows { self.new ≡ with_row_at access_type row.now.ai_type (access_with 0 row.now) self.old }
@@ -180,8 +181,8 @@ impl Accesses {
         Some(old)
     }
 
-    /// Removes the row of a type, and returns it as a row of the subscriber `s_id`. If there is none, it returns
-    /// `None`.
+    /// Removes the row of a type, and returns it as a row of the subscriber `s_id`, which is in 1..=16,777,216. If
+    /// there is none, it returns `None`. It takes no memory.
     pub fn remove(&mut self, s_id: u32, ai_type: u8) -> Option<Access>
         requires { IsTrue (is_between 1 LAST_SUBSCRIBER s_id) }
         ensures value { result ≡ option_map (access_with s_id) (row_at access_type ai_type self.old) }

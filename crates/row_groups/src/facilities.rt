@@ -4,7 +4,7 @@ ghost use Rattle.tatp_rows.specs.Ordered.{row_at, with_row_at, without_row};
 ghost use Rattle.tatp_rows.specs.Rows.{is_between};
 ghost use Rattle.tatp_rows.specs.Spans.{keys_from};
 ghost use Rattle.tatp_rows.specs.declared.ranges.TheConstants.{LAST_SUBSCRIBER};
-ghost use Rattle.row_groups.specs.Groups.{AreFacilities, IsPut, is_found_active, facility_type, facility_with};
+ghost use Rattle.row_groups.specs.Groups.{AreFacilities, IsPut, facility_type, facility_with};
 ghost use Rattle.row_groups.specs.FacilityPlaces.{facility_data, facility_row};
 
 use crate::places::{count_taken, push_some};
@@ -12,7 +12,7 @@ use arrayvec::ArrayVec;
 use std::marker::Model;
 use tatp_rows::{Facility, Letters, Refusal, is_between};
 
-/// The fields of an Special_Facility row that aren't in its key.
+/// The fields of a Special_Facility row that aren't in its key.
 #[derive(Clone, Copy, Debug)]
 struct FacilityData {
     is_active: bool,
@@ -133,7 +133,8 @@ impl Facilities {
         places[usize::from(sf_type) - 1]
     }
 
-    /// Returns the row of a type, as a row of the subscriber `s_id`, or `None` if there is none.
+    /// Returns the row of a type, as a row of the subscriber `s_id`, which is in 1..=16,777,216, or `None` if there is
+    /// none.
     pub fn get(&self, s_id: u32, sf_type: u8) -> Option<Facility>
         requires { IsTrue (is_between 1 LAST_SUBSCRIBER s_id) }
         ensures { result ≡ option_map (facility_with s_id) (row_at facility_type sf_type self.now) }
@@ -142,17 +143,7 @@ impl Facilities {
         Some(data.row(s_id, sf_type))
     }
 
-    /// Returns whether there is a row of a type, and it is active.
-    pub fn is_active(&self, sf_type: u8) -> bool
-        ensures { result ≡ is_found_active (row_at facility_type sf_type self.now) }
-    {
-        match self.data_at(sf_type) {
-            Some(data) => data.is_active,
-            None => false,
-        }
-    }
-
-    /// Returns the rows from a type on, in order, as rows of the subscriber `s_id`.
+    /// Returns the rows from a type on, in order, as rows of the subscriber `s_id`, which is in 1..=16,777,216.
     pub fn rows_from(&self, s_id: u32, sf_type: u8) -> ArrayVec<Facility, 4>
         requires { IsTrue (is_between 1 LAST_SUBSCRIBER s_id) }
         ensures { result.items ≡ map (facility_with s_id) (keys_from facility_type sf_type self.now) }
@@ -182,7 +173,7 @@ impl Facilities {
     }
 
     /// Replaces the row of the same type, and returns it. If there is none, it returns `None`, and the group is as it
-    /// was.
+    /// was. It takes no memory.
     pub fn replace(&mut self, row: &Facility) -> Option<Facility>
         ensures value { result ≡ option_map (facility_with row.now.s_id) (row_at facility_type row.now.sf_type self.old) }
         ensures rows { self.new ≡ with_row_at facility_type row.now.sf_type (facility_with 0 row.now) self.old }
@@ -192,8 +183,8 @@ impl Facilities {
         Some(old)
     }
 
-    /// Removes the row of a type, and returns it as a row of the subscriber `s_id`. If there is none, it returns
-    /// `None`.
+    /// Removes the row of a type, and returns it as a row of the subscriber `s_id`, which is in 1..=16,777,216. If
+    /// there is none, it returns `None`. It takes no memory.
     pub fn remove(&mut self, s_id: u32, sf_type: u8) -> Option<Facility>
         requires { IsTrue (is_between 1 LAST_SUBSCRIBER s_id) }
         ensures value { result ≡ option_map (facility_with s_id) (row_at facility_type sf_type self.old) }

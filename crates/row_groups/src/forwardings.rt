@@ -6,7 +6,7 @@ ghost use Rattle.tatp_rows.specs.Ordered.{row_at, with_row_at, without_row};
 ghost use Rattle.tatp_rows.specs.Rows.{is_between, is_start_time};
 ghost use Rattle.tatp_rows.specs.Spans.{keys_from};
 ghost use Rattle.tatp_rows.specs.declared.ranges.TheConstants.{LAST_SUBSCRIBER};
-ghost use Rattle.row_groups.specs.Groups.{AreForwardings, IsPut, end_of, forwarding_start, forwarding_with, is_in_time};
+ghost use Rattle.row_groups.specs.Groups.{AreForwardings, IsPut, forwarding_start, forwarding_with, is_in_time};
 ghost use Rattle.row_groups.specs.ForwardingPlaces.{forwarding_at};
 
 use crate::forwarding_word::{ForwardingData, ForwardingWord, count_taken};
@@ -101,8 +101,8 @@ impl Forwardings {
         words[place_at(start_time)].fields()
     }
 
-    /// Returns the row of a start time, as a row of the facility `sf_type` of the subscriber `s_id`, or `None` if there
-    /// is none.
+    /// Returns the row of a start time, as a row of the facility `sf_type`, which is in 1..=4, of the subscriber `s_id`,
+    /// which is in 1..=16,777,216, or `None` if there is none.
     pub fn get(&self, s_id: u32, sf_type: u8, start_time: u8) -> Option<Forwarding>
         requires s_id { IsTrue (is_between 1 LAST_SUBSCRIBER s_id) }
         requires sf_type { IsTrue (is_between 1 4 sf_type) }
@@ -112,7 +112,8 @@ impl Forwardings {
         Some(fields.row(s_id, sf_type, start_time))
     }
 
-    /// Returns the rows from a start time on, in order, as rows of the facility `sf_type` of the subscriber `s_id`.
+    /// Returns the rows from a start time on, in order, as rows of the facility `sf_type` of the subscriber `s_id`,
+    /// whose ranges are those of `get`.
     pub fn rows_from(&self, s_id: u32, sf_type: u8, start_time: u8) -> ArrayVec<Forwarding, 3>
         requires s_id { IsTrue (is_between 1 LAST_SUBSCRIBER s_id) }
         requires sf_type { IsTrue (is_between 1 4 sf_type) }
@@ -154,17 +155,6 @@ impl Forwardings {
         numbers
     }
 
-    /// Returns the hours at which the rows that start at 0, at 8 and at 16 end, or 0 for one that isn't there.
-    pub fn ends(&self) -> [u8; 3]
-        ensures { result ≡ end_of (row_at forwarding_start 0 self.now) ∷ end_of (row_at forwarding_start 8 self.now) ∷ end_of (row_at forwarding_start 16 self.now) ∷ [] }
-    {
-        [
-            self.words[0].end_time(),
-            self.words[1].end_time(),
-            self.words[2].end_time(),
-        ]
-    }
-
     /// Puts a row among the others. It returns `Exists` if there is one of its start time, and then the group is as it
     /// was. It takes no memory.
     pub fn insert(&mut self, row: &Forwarding) -> Result<(), Refusal>
@@ -179,7 +169,7 @@ impl Forwardings {
     }
 
     /// Replaces the row of the same start time, and returns it. If there is none, it returns `None`, and the group is
-    /// as it was.
+    /// as it was. It takes no memory.
     pub fn replace(&mut self, row: &Forwarding) -> Option<Forwarding>
         ensures value { result ≡ option_map (forwarding_with row.now.s_id row.now.sf_type) (row_at forwarding_start row.now.start_time self.old) }
         ensures rows { self.new ≡ with_row_at forwarding_start row.now.start_time (forwarding_with 0 0 row.now) self.old }
@@ -189,8 +179,8 @@ impl Forwardings {
         Some(old)
     }
 
-    /// Removes the row of a start time, and returns it as a row of the facility `sf_type` of the subscriber `s_id`. If
-    /// there is none, it returns `None`.
+    /// Removes the row of a start time, and returns it as a row of the facility `sf_type` of the subscriber `s_id`,
+    /// whose ranges are those of `get`. If there is none, it returns `None`. It takes no memory.
     pub fn remove(&mut self, s_id: u32, sf_type: u8, start_time: u8) -> Option<Forwarding>
         requires s_id { IsTrue (is_between 1 LAST_SUBSCRIBER s_id) }
         requires sf_type { IsTrue (is_between 1 4 sf_type) }

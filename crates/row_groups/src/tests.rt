@@ -170,7 +170,6 @@ fn has_facilities(group: &Facilities, pattern: u8, marked: u8) -> Result<bool, R
             .copied()
             .filter(|row| row.sf_type() == from);
         same &= group.get(S_ID, from) == found;
-        same &= group.is_active(from) == found.is_some_and(|row| row.is_active());
     }
     Ok(same)
 }
@@ -242,7 +241,6 @@ fn has_forwardings(
 {
     let all = plain_forwardings(sf_type, pattern, marked, 0)?;
     let mut same = group.len() == all.len();
-    let mut ends = [0; 3];
     for start_time in 0..26_u8 {
         let rows = plain_forwardings(sf_type, pattern, marked, start_time)?;
         same &= group.rows_from(S_ID, sf_type, start_time).as_slice() == rows.as_slice();
@@ -252,15 +250,12 @@ fn has_forwardings(
             .copied()
             .filter(|row| row.start_time() == start_time);
         same &= group.get(S_ID, sf_type, start_time) == found;
-        if let Some(row) = found {
-            ends[usize::from(start_time / 8) % 3] = row.end_time();
-        }
         for end_time in 0..26_u8 {
             let numbers = plain_numbers(&all, start_time, end_time);
             same &= group.destinations(start_time, end_time).as_slice() == numbers.as_slice();
         }
     }
-    Ok(same && group.ends() == ends)
+    Ok(same)
 }
 
 /// Whether a group of the start times in a pattern, which come in an order, is right before and after each change.

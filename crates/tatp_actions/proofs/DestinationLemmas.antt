@@ -1,5 +1,5 @@
 -- The numbers that a call is forwarded to, from three questions by key.
-use Rattle.tatp_actions.proofs.Common.{◌≡◌, refl, sym, ◌∙◌, ap, ℕ, ◌+◌, ◌<◌, ◌≤◌, arith, true, false, List, [], ◌∷◌, ◌++◌, map, length, Option, Some, None, nat_le, nat_lt, inl, inr, ◌&&◌, ◌==◌, ◌⊎◌, if◌then◌else◌, filter, list_all, option_to_list, nat_tests, map-append, ArrayVec, array_vec_len, kept, kept_of_three, by_test, each-weaker, key_found, both, both_from, forwarding_ranges, key_of, forwarding_key, CallForwardingRow, SpecialFacilityRow, is_between, is_start_time, forwarding_in_range, is_in_range, takes_call, destinations, new_destination, Book, IsBook, IsWithin, facility_at, has_active, forwarding_at, PartState, IsPart, Acts, destination, number_in_time, IsOnlyAsked, NewDestination, asked_once, once_more}
+use Rattle.tatp_actions.proofs.Common.{◌≡◌, refl, sym, ◌∙◌, ap, ℕ, ◌+◌, ◌<◌, ◌≤◌, arith, true, false, List, [], ◌∷◌, ◌++◌, map, length, Option, Some, None, nat_le, nat_lt, inl, inr, ◌&&◌, ◌==◌, ◌⊎◌, filter, option_to_list, nat_tests, map-append, ArrayVec, array_vec_len, kept, kept_of_three, by_test, each-weaker, key_found, both, both_from, forwarding_ranges, key_of, forwarding_key, CallForwardingRow, is_between, is_start_time, forwarding_in_range, is_in_range, takes_call, destinations, new_destination, Book, IsBook, IsWithin, facility_at, has_active, forwarding_at, PartState, IsPart, Acts, destination, number_in_time, IsOnlyAsked, NewDestination, asked_once, once_more}
 use Rattle.tatp_rows.specs.declared.refusal.Refusal.TheVariants as refusal
 use Rattle.tatp_actions.specs.declared.action.RowReply.TheVariants as reply
 use Rattle.tatp_actions.proofs.ActsLemmas.{acts_read, is_typed_from}

@@ -1,8 +1,8 @@
 -- Rows from a key on, and how they are written into a list.
-use Rattle.tatp_actions.proofs.Common.{◌≡◌, refl, sym, ap, subst, ◌∙◌, ℕ, zero, suc, ◌+◌, ◌-◌, ◌<◌, ◌≤◌, arith, List, [], ◌∷◌, ◌++◌, length, map, set, get_or, take, append_assoc, append-nil, map-append, length-append, length-map, Bool, true, false, nat_le, nat_lt, ◌==◌, AllByRecursion, filter, nat_tests, by_test, key_of_pair, key_of, subscriber_key, access_key, facility_key, forwarding_key, access_type, facility_type, forwarding_type, forwarding_ranges, access_s_id, facility_s_id, subscriber_ranges, SubscriberRow, AccessInfoRow, SpecialFacilityRow, CallForwardingRow, subscriber_in_range, access_in_range, facility_in_range, forwarding_in_range, IsBook, AreKeyed, IsKeyed, Tables, stored_book, each-left, keys_from, each-weaker, filter_all, IsOrderedBy, values_of}
+use Rattle.tatp_actions.proofs.Common.{◌≡◌, refl, sym, ap, subst, ◌∙◌, ℕ, zero, suc, ◌+◌, ◌-◌, ◌<◌, ◌≤◌, arith, List, [], ◌∷◌, ◌++◌, length, map, set, get_or, take, map-append, length-append, length-map, Bool, true, false, nat_le, nat_lt, ◌==◌, AllByRecursion, filter, nat_tests, by_test, key_of_pair, subscriber_key, access_key, facility_key, forwarding_key, access_type, facility_type, forwarding_type, forwarding_ranges, access_s_id, facility_s_id, subscriber_ranges, SubscriberRow, AccessInfoRow, SpecialFacilityRow, CallForwardingRow, subscriber_in_range, access_in_range, facility_in_range, forwarding_in_range, IsBook, AreKeyed, IsKeyed, Tables, stored_book, each-left, keys_from, each-weaker, filter_all, IsOrderedBy, values_of}
 use Rattle.tatp_actions.specs.Listed.{AreListed, AreWritten, IsListed, is_from, packed_from, rows_listed, subscriber_fields, access_fields, facility_fields, forwarding_fields, written_over, written_at, AreFilled}
 use Rattle.tatp_actions.specs.declared.listed.KeyFields.{KeyFields}
-use Rattle.std.proofs.Common.{min, drop, inl, inr, ◌*◌}
+use Rattle.std.proofs.Common.{min, drop, inl, inr}
 use Rattle.std.proofs.lemmas.Bool.{cases_lt}
 use Rattle.std.proofs.lemmas.List.{drop_all, length-take, take-append-drop, take_more}
 use Rattle.tatp_rows.proofs.RowLemmas.{forwarding_s_id}

@@ -92,8 +92,8 @@ impl Part {
     }
 
     /// Puts the numbers to which up to 16 calls are forwarded into an empty list, as `destinations` returns them, in
-    /// the order of the queries. Each call is asked for by its s_id, sf_type, start_time and end_time. The facilities and
-    /// the groups of forwardings are looked up with overlapping memory accesses.
+    /// the order of the queries. Each call is asked for by its s_id, sf_type, start_time and end_time. The facilities
+    /// and the groups of forwardings are looked up with overlapping memory accesses.
     pub fn copy_destinations(
         &self,
         asked: &[(u32, u8, u8, u8)],

@@ -104,7 +104,7 @@ impl<R: Rows> Part<R> {
         }
     }
 
-    /// Returns how often actions have asked the rows. A row that is lent is not counted.
+    /// Returns how often actions have asked the rows. Reads that don't change the part are not counted.
     pub fn asked(&self) -> u64
         ensures { result ≡ self.now.asked }
     {

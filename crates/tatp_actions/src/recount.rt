@@ -8,6 +8,7 @@ ghost use Rattle.tatp_actions.specs.Recount.{one_more_in, one_more_from, with_ro
 
 use crate::cells::{CELLS, Cells, FIRST_AREA, FIRST_ZONE};
 use crate::part::Part;
+use crate::trees::KEY_SHIFT;
 use group_tree::GroupTree;
 use row_groups::Facilities;
 use std::marker::Model;
@@ -65,7 +66,7 @@ fn count_hours(cells: &mut Cells, from: u8, to: u8)
 fn is_active(facilities: &GroupTree<Facility, Facilities>, key: u64) -> bool
     ensures { result ≡ is_active_at key facilities.now.rows }
 {
-    match facilities.get(key) {
+    match facilities.get_by_guess(key, KEY_SHIFT) {
         Some(facility) => facility.is_active(),
         None => false,
     }

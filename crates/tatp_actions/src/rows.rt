@@ -86,8 +86,8 @@ pub trait Rows {
         ensures asked { times_asked self.new ≡ once_more (times_asked self.old) }
         ensures heights { heights self.new ≡ heights self.old };
 
-    /// Replaces the Access_Info row with the key of this one, and hands back the old one; if there is none, hands back this
-    /// one.
+    /// Replaces the Access_Info row with the key of this one, and hands back the old one; if there is none, hands back
+    /// this one.
     fn replace_a(&mut self, row: Access) -> Result<Access, Access>
         ensures value { result ≡ ok_or (value_at (access_key row) (tables self.old).access) row }
         ensures rows { tables self.new ≡ record (tables self.old) { access = with_row_at key_of_pair (access_key row) (access_key row, row) (tables self.old).access } }
@@ -113,15 +113,15 @@ pub trait Rows {
         ensures asked { times_asked self.new ≡ once_more (times_asked self.old) }
         ensures heights { heights self.new ≡ heights self.old };
 
-    /// Replaces the Special_Facility row with the key of this one, and hands back the old one; if there is none, hands back this
-    /// one.
+    /// Replaces the Special_Facility row with the key of this one, and hands back the old one; if there is none, hands
+    /// back this one.
     fn replace_f(&mut self, row: Facility) -> Result<Facility, Facility>
         ensures value { result ≡ ok_or (value_at (facility_key row) (tables self.old).facilities) row }
         ensures rows { tables self.new ≡ record (tables self.old) { facilities = with_row_at key_of_pair (facility_key row) (facility_key row, row) (tables self.old).facilities } }
         ensures asked { times_asked self.new ≡ once_more (times_asked self.old) };
 
-    /// Changes the Special_Facility row at a key, which keeps its key, where it lies, and returns false if there is none.
-    /// It may ask twice, because the default calls `get_f` and `replace_f`.
+    /// Changes the Special_Facility row at a key where it lies, and returns false if there is none. The change must not
+    /// give the row another key. It may ask twice, because the default calls `get_f` and `replace_f`.
     fn revise_f<E: Revise<Facility>>(&mut self, key: u64, revision: &mut E) -> bool
         requires { IfSome (value_at key (tables self.old).facilities) (λ row. facility_key (E.revised revision.old row) ≡ key) }
         ensures rows { tables self.new ≡ record (tables self.old) { facilities = revised_at key (E.revised revision.old) (tables self.old).facilities } }
@@ -138,8 +138,8 @@ pub trait Rows {
         true
     }
 
-    /// Adds a Special_Facility row. Its refusals, in order, are `Exists` if its key has a row, and `Memory` if the system
-    /// refuses memory, and then the rows are as before, and the row is handed back.
+    /// Adds a Special_Facility row. Its refusals, in order, are `Exists` if its key has a row, and `Memory` if the
+    /// system refuses memory, and then the rows are as before, and the row is handed back.
     fn insert_f(&mut self, row: Facility) -> Result<(), Back<Facility>>
         ensures table { IsInserted (facility_key row) row (tables self.old).facilities (tables self.new).facilities result }
         ensures others { tables self.new ≡ record (tables self.old) { facilities = (tables self.new).facilities } }
@@ -158,15 +158,15 @@ pub trait Rows {
         ensures asked { times_asked self.new ≡ once_more (times_asked self.old) }
         ensures heights { heights self.new ≡ heights self.old };
 
-    /// Replaces the Call_Forwarding row with the key of this one, and hands back the old one; if there is none, hands back this
-    /// one.
+    /// Replaces the Call_Forwarding row with the key of this one, and hands back the old one; if there is none, hands
+    /// back this one.
     fn replace_c(&mut self, row: Forwarding) -> Result<Forwarding, Forwarding>
         ensures value { result ≡ ok_or (value_at (forwarding_key row) (tables self.old).forwardings) row }
         ensures rows { tables self.new ≡ record (tables self.old) { forwardings = with_row_at key_of_pair (forwarding_key row) (forwarding_key row, row) (tables self.old).forwardings } }
         ensures asked { times_asked self.new ≡ once_more (times_asked self.old) };
 
-    /// Adds a Call_Forwarding row. Its refusals, in order, are `Exists` if its key has a row, and `Memory` if the system
-    /// refuses memory, and then the rows are as before, and the row is handed back.
+    /// Adds a Call_Forwarding row. Its refusals, in order, are `Exists` if its key has a row, and `Memory` if the
+    /// system refuses memory, and then the rows are as before, and the row is handed back.
     fn insert_c(&mut self, row: Forwarding) -> Result<(), Back<Forwarding>>
         ensures table { IsInserted (forwarding_key row) row (tables self.old).forwardings (tables self.new).forwardings result }
         ensures others { tables self.new ≡ record (tables self.old) { forwardings = (tables self.new).forwardings } }

@@ -1,4 +1,4 @@
-use Rattle.tatp_actions.proofs.Common.{◌≡◌, ◌<◌, arith, length, map, refl, key_of_pair, keys_from}
+use Rattle.tatp_actions.proofs.Common.{arith, map, refl, key_of_pair, keys_from}
 use Rattle.tatp_actions.proofs.ListedLemmas.{last_small, page_grows, page_none, page_parts, page_some, writing_done, writing_full, writing_next, writing_starts}
 use Rattle.tatp_actions.proofs.listed.write_from.Goals as goal
 

@@ -1,6 +1,5 @@
-use Rattle.tatp_actions.proofs.Common.{◌≡◌, ◌-◌, arith, length, subst, refl}
+use Rattle.tatp_actions.proofs.Common.{◌≡◌, ◌-◌, arith, length}
 use Rattle.std.proofs.Common.{min}
-use Rattle.tatp_actions.specs.Listed.{AreWritten}
 use Rattle.tatp_actions.proofs.ListedLemmas.{page_ends, page_more, page_starts}
 use Rattle.tatp_actions.proofs.listed.write_page.Goals.{then-page-room, else-page-room}
 use Rattle.tatp_actions.proofs.listed.write_page.Goals as goal

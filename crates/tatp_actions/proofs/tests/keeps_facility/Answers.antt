@@ -1,4 +1,4 @@
-use Rattle.tatp_actions.proofs.Common.{◌≡◌, ◌∙◌, ◌==◌, refl, sym, ap, subst, arith, true, ℕ, List, [], ◌∷◌, Option, Some, None, Result, Ok, Err, IfSome, nat_tests, by_test, each-with_row, each-with_row_at, facility_key, key_of_pair, with_row_at, IsKeyed, SpecialFacilityRow, revised_at, revised_none, revised_some, value_at, Tables}
+use Rattle.tatp_actions.proofs.Common.{◌≡◌, ◌∙◌, ◌==◌, refl, sym, subst, arith, ℕ, List, [], ◌∷◌, Option, Some, None, Result, Ok, Err, IfSome, nat_tests, by_test, each-with_row, each-with_row_at, facility_key, key_of_pair, with_row_at, IsKeyed, SpecialFacilityRow, revised_at, revised_none, revised_some, value_at, Tables}
 use Rattle.mr_subtree.specs.Trees.{IsInserted}
 use Rattle.tatp_rows.specs.declared.refusal.Back.{Back}
 use Rattle.tatp_actions.proofs.tests.keeps_facility.Goals as goal

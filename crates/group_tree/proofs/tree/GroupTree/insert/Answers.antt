@@ -1,6 +1,6 @@
 use Rattle.group_tree.proofs.Common.{◌≡◌, ◌∙◌, ap, base_of, rows_beside, rows_of, []}
 use Rattle.group_tree.proofs.GroupsLemmas.{HaveLaws}
-use Rattle.group_tree.proofs.TreeLemmas.{first_answer, first_are, its_rules, memory_of_rows, none_beside, of_refusal, put_answer, put_are, put_refused}
+use Rattle.group_tree.proofs.TreeLemmas.{few_of_rows, first_answer, first_are, its_rules, memory_of_rows, none_beside, of_refusal, put_answer, put_are, put_refused}
 use Rattle.group_tree.proofs.tree.GroupTree.insert.Goals.{in-Ok, in-Err}
 use Rattle.group_tree.proofs.tree.GroupTree.insert.Goals as goal
 
@@ -66,3 +66,8 @@ returns-in_default-clause-memory g c =
       | in-Ok w ↦ memory_of_rows laws c.self.inside.groups.rows c.self.invariant c.insert.result c.args.row c.match-insert.result c.insert.ensures.memory (rw w.in-Ok.is w.result-is)
       | in-Err w ↦ memory_of_rows laws c.self.inside.groups.rows c.self.invariant c.insert.result c.args.row c.match-insert.result c.insert.ensures.memory (rw w.in-Err.is w.result-is)
     ])
+
+pub returns-in_default-clause-height : goal.returns-in_default-clause-height
+returns-in_default-clause-height g c =
+    let laws : HaveLaws g.G.Group.listed g.G.Group.Holds g.G.Group.span = record { positive = g.met.G.Group.positive; rules = g.met.G.Group.rules } in
+    rw (← c.self.view_is) (λ few. c.insert.ensures.height (few_of_rows laws c.self.inside.groups.rows c.self.invariant few))

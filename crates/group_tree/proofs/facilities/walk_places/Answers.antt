@@ -1,0 +1,25 @@
+use Rattle.group_tree.proofs.Common.{◌+◌, ◌*◌, refl, arith, facility_type, facility_with, s_id_in, each-weaker}
+use Rattle.group_tree.proofs.WalkLemmas.{all_in_front, none_in_front, walked_none, walked_row}
+use Rattle.group_tree.proofs.facilities.walk_places.Goals.{in-Some, in_default}
+use Rattle.group_tree.proofs.facilities.walk_places.Goals as goal
+
+pub loop-sf_type-init : goal.loop-sf_type-init
+loop-sf_type-init g c = λ holds. rw (none_in_front facility_type 1 c.args.group.now (each-weaker (λ row h. h.1) c.args.group.now holds.rules.each)) refl
+
+pub loop-sf_type-preserved : goal.loop-sf_type-preserved
+loop-sf_type-preserved g c =
+    let base = c.args.base in
+    let n = c.loop-sf_type.sf_type in
+    let rows = c.args.group.now in
+    elim c.match-get.branch [
+      | in-Some w ↦ λ holds. rw w.so_far-is
+          (walked_row _ (λ kind. base + 256 * kind) facility_type (facility_with (s_id_in base)) n (n + 1) rows (omega arith) holds.rules.ordered
+          (each-weaker (λ row h. λ less. omega arith) rows holds.rules.each) c.args.so_far.now c.loop-sf_type.so_far _ _ _ (_, _, refl, w.f.ensures, refl) (omega (arith, w.from-in-Some.ensures)) w.in-Some.ensures (c.loop-sf_type.invariant holds))
+      | in_default w ↦ λ holds. rw w.so_far-is
+          (walked_none _ (λ kind. base + 256 * kind) facility_type (facility_with (s_id_in base)) n (n + 1) rows (omega arith) holds.rules.ordered
+          (each-weaker (λ row h. λ less. omega arith) rows holds.rules.each) c.args.so_far.now c.loop-sf_type.so_far w.in_default.ensures (c.loop-sf_type.invariant holds))
+    ]
+
+pub returns : goal.returns
+returns g c = λ holds.
+    rw (← all_in_front facility_type c.loop-sf_type.sf_type c.args.group.now (each-weaker (λ row h. omega (arith, h.2, c.loop-sf_type-test.false)) c.args.group.now holds.rules.each)) (c.loop-sf_type.invariant holds)
