@@ -1,7 +1,9 @@
 -- Orders that are submitted, and their answers, which are held.
-use Rattle.std.proofs.Common.{◌≡◌, ◌∙◌, sym, ap, subst, ℕ, ◌<◌, ◌≤◌, ◌+◌, List, [], ◌∷◌, ◌++◌, append_assoc, length, take, get_or}
+use Rattle.std.proofs.Common.{◌≡◌, ◌⊎◌, ⊎_elim, ◌∙◌, sym, ap, subst, ℕ, ◌<◌, ◌≤◌, ◌+◌, List, [], ◌∷◌, ◌++◌, append_assoc, length, take, get_or, Option, Some, None, Result, Err, IsErrOf}
 use Rattle.std.proofs.lemmas.List.{take_all, take_more}
 use Rattle.journal_file.specs.Device.{LeavesOnly}
+use Rattle.journal_file.specs.declared.fault.JournalFault.{JournalFault}
+use Rattle.journal_file.specs.declared.fault.JournalFault.TheVariants.{Memory}
 use Rattle.journal.specs.Lines.{HasFence}
 use Rattle.journal.specs.declared.tape.Tape.{Tape}
 use Rattle.journal.proofs.MomentLemmas.{weaker}
@@ -55,3 +57,7 @@ module _ {D : Type 0} (moment : D → ℕ) (left_since : D → ℕ → List ℕ 
   none_stand old new stored orders run =
       weaker moment left_since old.device new.device (λ c. HasFence c × StandsAfterSome orders [] stored c)
       (λ c. HasFence c × (told : List Answer) × StandsAfterSome orders told stored c) run (λ c here. (here.0, [], here.1))
+
+-- without a fault before, an order is refused only for want of memory
+pub only_memory : {T : Type 0} (result : Result T JournalFault) (fault : Option JournalFault) (e why other : JournalFault) → fault ≡ None → (fault ≡ Some why) ⊎ (why ≡ Memory) → result ≡ Err e → e ≡ why → IsErrOf result other → other ≡ Memory
+only_memory result fault e why other none cause is same told = ⊎_elim (λ some. let wrong : ⊥ = cc in absurd wrong) (λ memory. cc) cause

@@ -51,6 +51,7 @@ impl<D: Device> Kept<D> {
         ensures tape { self.new.journaled.journal.tape ≡ self.old.journaled.journal.tape }
         ensures refused { OnErr result (IsUnchanged self.old.journaled self.new.journaled) }
         ensures refused_held { OnErr result (self.new.held.items ≡ self.old.held.items) }
+        ensures works { OnOk result (self.new.journaled.journal.fault ≡ None) }
         ensures cause { IfErr result (λ why. (self.old.journaled.journal.fault ≡ Some why) ⊎ (why ≡ JournalFault.Memory)) }
         // After a sync that gave up, no order is carried out.
         ensures broken { IfSome self.old.journaled.journal.fault (λ why. OnOk result ⊥) }
@@ -113,6 +114,9 @@ impl<D: Device> Kept<D> {
         ensures held { OnErr result ((stored : Store) (earlier : List Order)
             → AreHeld D.seen D.may_leave stored earlier self.old → self.new.journaled.journal.fault ≡ None
             → (n : ℕ) × AreHeld D.seen D.may_leave stored (earlier ++ take n orders.now) self.new) }
+        // It returns Failed only if the disk fails, or has failed before.
+        ensures failed { self.old.journaled.journal.fault ≡ None → IsErrOf result Failed → D.faults self.old.journaled.journal.tape.device < D.faults self.new.journaled.journal.tape.device }
+        ensures no_other { self.old.journaled.journal.fault ≡ None → (IsErrOf result NoJournal → ⊥) × (IsErrOf result BadLine → ⊥) × (IsErrOf result Locked → ⊥) }
     {
         for order in orders {
             self.submit(order)?;

@@ -1,5 +1,6 @@
 -- The lines of texts of which one is the front of the other.
-use Rattle.std.proofs.Common.{◌≡◌, ◌≢◌, ℕ, List, [], ◌∷◌, ◌++◌, refl, sym, ◌∙◌, ap, inl, inr, arith}
+use Rattle.std.proofs.Common.{◌≡◌, ◌≢◌, ℕ, ◌==◌, true, List, [], ◌∷◌, ◌++◌, length, refl, sym, ◌∙◌, ap, inl, inr, arith}
+use Rattle.std.proofs.lemmas.List.{length-append}
 use Rattle.std.proofs.lemmas.Bool.{cases_eq}
 use Rattle.std.proofs.lemmas.Bool.Decides.{nat_tests}
 use Rattle.journal_file.specs.Device.{IsFront}
@@ -71,3 +72,12 @@ lines_between low high c between = record {
   at_least = front_lines low (text c) between.at_least;
   at_most = front_lines (text c) high between.at_most;
 }
+
+-- whole lines end with a line feed
+pub whole_ends : (bytes : List ℕ) (byte : ℕ) → IsWhole (bytes ++ byte ∷ []) → (byte == 10) ≡ true
+whole_ends bytes byte whole = elim (cases_eq byte 10) [
+  | inl is ↦ grind (arith, nat_tests, is)
+  | inr isnt ↦
+      let none : open_from [] bytes ++ byte ∷ [] ≡ [] = sym (open_one_other bytes byte isnt) ∙ whole in
+      absurd (omega (arith, ap length none, length-append (open_from [] bytes) (byte ∷ [])))
+]

@@ -2,7 +2,7 @@
 use Rattle.std.proofs.Common.{◌≡◌, ◌≢◌, ℕ, zero, suc, ◌≤◌, List, [], ◌∷◌, ◌++◌, length, take, replicate, refl, sym, ◌∙◌, ap, inl, inr, arith}
 use Rattle.std.proofs.lemmas.Bool.{cases_eq}
 use Rattle.std.proofs.lemmas.Bool.Decides.{nat_tests}
-use Rattle.std.proofs.lemmas.List.{append-nil}
+use Rattle.std.proofs.lemmas.List.{append-nil, length-append}
 use Rattle.journal_file.specs.Device.{IsFront}
 use Rattle.journal.specs.Lines.{text, HasNoZero, HasFence}
 
@@ -92,3 +92,11 @@ text_grows (byte ∷ file) more = elim (cases_eq byte 0) [
             ∙ ap (λ (l : List ℕ). l ++ rest.0) (sym (text_byte byte file isnt)),
       )
 ]
+
+-- bytes with a 0 among them are no text
+pub zero_is_told : (a rest : List ℕ) (byte : ℕ) → HasNoZero a → byte ≡ 0 → HasNoZero (a ++ byte ∷ rest) → ⊥
+zero_is_told a rest byte none is told =
+    let ends : text (a ++ byte ∷ rest) ≡ a ++ text (byte ∷ rest) = text-append a (byte ∷ rest) none in
+    let same : a ++ text (byte ∷ rest) ≡ a ++ byte ∷ rest = sym ends ∙ told in
+    let short : a ++ [] ≡ a ++ byte ∷ rest = ap (λ (l : List ℕ). a ++ l) (sym (text_zero byte rest is)) ∙ same in
+    omega (arith, ap length short, length-append a [], length-append a (byte ∷ rest))

@@ -6,6 +6,7 @@ ghost use Rattle.journal.specs.Lines.{HasNoZero, IsWhole};
 pub fn is_group(bytes: &[u8]) -> bool
     ensures no_zero { result ≡ true → HasNoZero bytes.now }
     ensures whole { result ≡ true → IsWhole bytes.now }
+    ensures all { HasNoZero bytes.now → IsWhole bytes.now → result ≡ true }
 {
     let mut is_whole = true;
     for byte in bytes {

@@ -6,4 +6,5 @@ abbrev pub invariant-loop-byte : goal.invariant-loop-byte
 invariant-loop-byte l = record {
   none : HasNoZero (take l.byte-index l.bytes);
   whole : l.is_whole ≡ true → IsWhole (take l.byte-index l.bytes);
+  all : IsWhole (take l.byte-index l.bytes) → l.is_whole ≡ true;
 }
