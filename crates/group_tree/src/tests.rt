@@ -1,5 +1,6 @@
-//! What no clause says: that each call can succeed. Drawn changes are made in a tree and in a plain table of marks, and
-//! both are compared row by row, page by page, and behind a cut and a join.
+//! What no clause says: that each call can succeed, and when memory is asked for. Drawn changes are made in a tree and in
+//! a plain table of marks, and both are compared row by row and page by page. A tree that was cut and joined again has
+//! the rows that it had.
 ghost use Rattle.std.specs.Prelude.{◌≡◌};
 ghost use Rattle.mr_cut.specs.Bounds.{blanks_for_slice, blanks_for_meld};
 
@@ -16,8 +17,8 @@ use tatp_rows::{Access, Forwarding, Letters, Number, Refusal, row_key, subscribe
 /// A mark for each row that there may be, or 0 for none: four accesses for each of 64 subscribers.
 type Marks = [[u8; 4]; 64];
 
-/// What a walk over rows saw: how many, the last key, how many keys were not above the one in front, and a sum that
-/// hangs on the order.
+/// What a walk over rows saw: how many, the last key, how many keys were not above the one in front, and a sum that is
+/// another one in another order.
 #[derive(Clone, Copy, Debug, PartialEq)]
 struct Walk {
     rows: u64,
@@ -226,6 +227,48 @@ fn walked(tree: &GroupTree<Forwarding, Forwardings>, walk: Walk) -> Walk {
         &|walk, key, row| { step(walk, key, row.end_time()) },
     );
     walk
+}
+
+// A size that nothing else asks for: where `refuse_memory.sh` refuses all memory, it does so from a piece of it on.
+const SIGNAL: usize = 7_654_321;
+
+/// Whether all memory is refused from here on. One refused piece alone doesn't tell.
+fn is_all_refused(alloc: Global) -> bool {
+    Vec::<u8>::with_capacity(alloc, SIGNAL).is_err()
+        && Vec::<u8>::with_capacity(alloc, SIGNAL).is_err()
+}
+
+/// Adds the access in a place of a subscriber, and tells why it was refused.
+fn refused(tree: &mut GroupTree<Access, Accesses>, s_id: usize, place: usize) -> Option<Refusal> {
+    match access(s_id, place, 1) {
+        Ok(row) => tree.insert(row).err().map(|back| back.why),
+        Err(why) => Some(why),
+    }
+}
+
+// Run with all memory refused once the tree stands (`refuse_memory.sh`). Then the first row of a group is refused,
+// because the root has 32 groups, and a row in front of the others of its group, between them or behind them is added.
+#[test]
+fn rows_of_groups_all_refused_1(rt: HostRuntime) {
+    let mut tree = GroupTree::new(rt.alloc()).expect(&rt, "memory");
+    let mut filled = true;
+    for s_id in 0..32_usize {
+        filled &= refused(&mut tree, s_id, 1).is_none();
+    }
+    let want = is_all_refused(rt.alloc()).then_some(Refusal::Memory);
+    let first = refused(&mut tree, 40, 1);
+    let joined = [
+        refused(&mut tree, 7, 0),
+        refused(&mut tree, 7, 3),
+        refused(&mut tree, 7, 2),
+        refused(&mut tree, 31, 2),
+    ];
+    let again = refused(&mut tree, 7, 2);
+    assert_eq!(rt;
+        (filled, first, joined, again),
+        (true, want, [None; 4], Some(Refusal::Exists))
+    );
+    drop(tree);
 }
 
 #[test]

@@ -1,5 +1,6 @@
 //! The trees against the plain program, on the same drawn actions.
 pub(crate) mod draws;
+pub(crate) mod patterns;
 pub(crate) mod tally;
 
 use crate::plain::PlainRows;
@@ -74,6 +75,7 @@ pub(crate) fn expect_turn(
         (action, &plain_reply, plain_change.notes().as_slice(), true)
     );
     expect_same_rows(rt, part, plain, action.s_id());
+    tally.note_patterns(part, action.s_id());
     tally.note(rt, action, &reply, change.notes().as_slice());
 }
 
@@ -132,7 +134,7 @@ pub(crate) fn expect_same_book(rt: &impl Abort, part: &mut Part, plain: &mut Par
 }
 
 /// Asserts that two parts do alike in 20,000 actions, among them each kind of reply, and that the cells move as they
-/// count.
+/// count. Each pattern of places is the one of some subscriber or facility at some time.
 fn expect_alike(rt: &impl Abort, part: &mut Part, plain: &mut Part<PlainRows>) {
     let mut seed = 7u64;
     let mut tally = Tally::new();
@@ -141,6 +143,7 @@ fn expect_alike(rt: &impl Abort, part: &mut Part, plain: &mut Part<PlainRows>) {
         expect_same_book(rt, part, plain);
         tally.expect_sums(rt, part);
     }
+    assert!(rt; tally.has_all_patterns());
     tally.expect_all_kinds(rt, 20_000);
 }
 

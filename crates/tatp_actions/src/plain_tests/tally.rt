@@ -1,4 +1,5 @@
 //! How often each kind of reply came, and by how much each cell moved.
+use super::patterns::Patterns;
 use crate::tests::counts_of;
 use crate::{Action, CELLS, FIRST_AREA, Part, RowReply};
 use std::process::Abort;
@@ -105,11 +106,12 @@ const KINDS: [(&str, Kind); 45] = [
     ("SetNumber", Kind::Refused(Refusal::NoSubscriber)),
 ];
 
-/// How often each kind of reply came, and by how much each cell moved in all.
+/// How often each kind of reply came, by how much each cell moved in all, and which places had rows at once.
 #[derive(Drop)]
 pub(crate) struct Tally {
     counts: [u32; KINDS.len()],
     sums: [u64; CELLS as usize],
+    patterns: Patterns,
 }
 
 impl Tally {
@@ -118,7 +120,18 @@ impl Tally {
         Tally {
             counts: [0; KINDS.len()],
             sums: [0; CELLS as usize],
+            patterns: Patterns::none(),
         }
+    }
+
+    /// Notes which places of a subscriber have rows.
+    pub(crate) fn note_patterns(&mut self, part: &mut Part, s_id: u32) {
+        self.patterns.note(part, s_id);
+    }
+
+    /// Whether each pattern of places was noted.
+    pub(crate) fn has_all_patterns(&self) -> bool {
+        self.patterns.are_all()
     }
 
     /// Counts a reply to an action, and sums its notes.
