@@ -4,7 +4,7 @@
 # machine, the day and the commit.
 #
 #   bash bench/measure.sh write      builds the programs to measure beside, and writes the loads; once, before
-#   bash bench/measure.sh [NAME ..]  measures: beside, parts, engine, threads, library, owners, redis; without a name all of
+#   bash bench/measure.sh [NAME ..]  measures: beside, parts, engine, threads, library, sparse, owners, redis; without a name all of
 #                                    them but redis, which needs dist.sh before
 #
 # At the repository's top, once `rt run` ran in crates/hlr and `rt lib --cpu x86-64` in crates/hlr_c; it works in /tmp/bench (ROOM). HLR is
@@ -31,6 +31,7 @@ measure() {
     engine) PROGRAM=$engine bash bench/engine/run.sh 5 ;;
     threads) python3 bench/threads.py "$hlr" 3 3 ;;
     library) python3 bench/library.py calls 5 ;;
+    sparse) python3 bench/library.py sparse 3 100000 ;;
     owners) python3 bench/library.py owners 5 ;;
     redis) over_network dist/lib/redis/modules/hlr.so ;;
   esac
@@ -60,7 +61,7 @@ if [ "${1:-}" = write ]; then
   exit
 fi
 machine
-for name in "${@:-beside parts engine threads library owners}"; do
+for name in "${@:-beside parts engine threads library sparse owners}"; do
   for one in $name; do
     echo "$one, at $(date +%T), $(cut -d' ' -f1 /proc/loadavg) programs ready:"
     measure "$one" || echo "$one failed"

@@ -1,6 +1,7 @@
-/* What a register for a whole network takes: network SUBSCRIBERS rising|random. Subscribers have the rows of TATP, some
- * ten each. They are added in rising or in random order of their s_ids, and their numbers are in no order. Each line is
- * a measure and its value. Seconds are those of the processor, user and system. */
+/* What a register for a whole network takes: network SUBSCRIBERS rising|random [sparse|alone]. Subscribers have the rows
+ * of TATP, some ten each, or one row of each kind (sparse), or no other row (alone). They are added in rising or in
+ * random order of their s_ids, and their numbers are in no order. Each line is a measure and its value. Seconds are those
+ * of the processor, user and system. */
 #define _POSIX_C_SOURCE 200809L
 #include "hlr.h"
 #include "shared.h"
@@ -14,8 +15,11 @@
 
 enum { PAGE = 256, CALLS = 1000000 };
 
+enum population { TATP, SPARSE, ALONE };
+
 static hlr handle = HLR_CLOSED;
 static uint64_t seed = FIRST_SEED, subscribers, sum;
+static enum population population = TATP;
 
 static uint64_t drawn(void) { return drawn_from(&seed); }
 
@@ -41,20 +45,14 @@ static void want(uint8_t code) {
     exit(1);
 }
 
-/* Draws some of the first bits, as many as `count` says. */
-static unsigned drawn_of(unsigned bits, unsigned count) {
-    unsigned chosen = 0;
-    while (count > 0) {
-        unsigned bit = 1u << drawn() % bits;
-        count -= !(chosen & bit);
-        chosen |= bit;
-    }
-    return chosen;
-}
+static unsigned drawn_of(unsigned bits, unsigned count) { return bits_drawn_from(&seed, bits, count); }
+
+/* The types of a subscriber's accesses or facilities. */
+static unsigned drawn_types(void) { return population == SPARSE ? 1 : drawn_of(4, (unsigned)(drawn() % 4) + 1); }
 
 static uint64_t add_forwardings(uint64_t s_id, uint64_t sf_type) {
     uint64_t rows = 0;
-    unsigned starts = drawn_of(3, (unsigned)(drawn() % 4));
+    unsigned starts = population == SPARSE ? 1 : drawn_of(3, (unsigned)(drawn() % 4));
     for (uint64_t place = 0; place < 3; place++) {
         if (!(starts >> place & 1)) continue;
         uint64_t start = place * 8, end = start + 1 + drawn() % 8;
@@ -66,7 +64,7 @@ static uint64_t add_forwardings(uint64_t s_id, uint64_t sf_type) {
 
 static uint64_t add_accesses(uint64_t s_id) {
     uint64_t rows = 0;
-    unsigned types = drawn_of(4, (unsigned)(drawn() % 4) + 1);
+    unsigned types = drawn_types();
     for (uint64_t type = 1; type <= 4; type++) {
         if (!(types >> (type - 1) & 1)) continue;
         hlr_access row = {.s_id = s_id, .ai_type = type, .data3 = "ABC", .data4 = "ABCDE"};
@@ -78,7 +76,7 @@ static uint64_t add_accesses(uint64_t s_id) {
 
 static uint64_t add_facilities(uint64_t s_id) {
     uint64_t rows = 0;
-    unsigned types = drawn_of(4, (unsigned)(drawn() % 4) + 1);
+    unsigned types = drawn_types();
     for (uint64_t type = 1; type <= 4; type++) {
         if (!(types >> (type - 1) & 1)) continue;
         hlr_facility row = {.s_id = s_id, .sf_type = type, .is_active = drawn() % 100 < 85, .data_b = "ABCDE"};
@@ -93,7 +91,7 @@ static uint64_t add(uint64_t s_id) {
     hlr_subscriber row = {.s_id = s_id, .sub_nbr = number(s_id), .msc_location = 1};
     row.vlr_location = drawn() % LOCATIONS + 1;
     want(hlr_add_subscriber(&handle, &row));
-    return 1 + add_accesses(s_id) + add_facilities(s_id);
+    return population == ALONE ? 1 : 1 + add_accesses(s_id) + add_facilities(s_id);
 }
 
 /* All s_ids, in rising or in random order. */
@@ -226,8 +224,16 @@ static void divide(void) {
     told("dissolve", now() - begun);
 }
 
+/* Reads which population is meant: false if there is none of this name. */
+static int is_population(const char *name) {
+    if (strcmp(name, "sparse") == 0) population = SPARSE;
+    if (strcmp(name, "alone") == 0) population = ALONE;
+    return population != TATP;
+}
+
 int main(int argc, char **argv) {
-    if (argc != 3 || (strcmp(argv[2], "rising") != 0 && strcmp(argv[2], "random") != 0)) return 2;
+    if (argc < 3 || argc > 4 || (strcmp(argv[2], "rising") != 0 && strcmp(argv[2], "random") != 0)) return 2;
+    if (argc == 4 && !is_population(argv[3])) return 2;
     subscribers = strtoull(argv[1], NULL, 10);
     if (subscribers < 2 || subscribers > 16777216) return 2;
     want(hlr_open(1, (subscribers + 31) / 32, &handle));

@@ -16,6 +16,17 @@ static inline uint64_t drawn_from(uint64_t *seed) {
     return *seed >> 16;
 }
 
+/* Draws some of the first bits, as many as `count` says. */
+static inline unsigned bits_drawn_from(uint64_t *seed, unsigned bits, unsigned count) {
+    unsigned chosen = 0;
+    while (count > 0) {
+        unsigned bit = 1u << drawn_from(seed) % bits;
+        count -= !(chosen & bit);
+        chosen |= bit;
+    }
+    return chosen;
+}
+
 /* Seconds that a clock shows. */
 static inline double seconds_of(clockid_t clock) {
     struct timespec time = {0};
