@@ -1,6 +1,6 @@
 -- Groups of Access_Info rows at their keys.
-use Rattle.group_tree.proofs.Common.{◌≡◌, ◌≢◌, ◌∙◌, refl, sym, ap, true, ℕ, ◌+◌, ◌*◌, ◌/◌, ◌%◌, ◌<◌, ◌≤◌, List, Option, None, map, keys_from, option_map, arith, row_at, with_row_at, without_row, without_row_absent, key_of_pair, value_at, base_of, IsBase, IsPut, IsPutAt, IsReplacedAt, Result, Refusal, is_ok, AccessInfoRow, access_key, access_in_range, access_type, access_with, HoldsAccesses, accesses_listed, s_id_in, subscriber_span}
-use Rattle.group_tree.proofs.TableLemmas.{AreKept, IsAtHome, Table, found_at, handed_at, kept_put, kept_replaced, kept_without, left_at, missing_at, put_at, replaced_at}
+use Rattle.group_tree.proofs.Common.{◌≡◌, ◌≢◌, ◌∙◌, refl, sym, ap, true, ℕ, ◌+◌, ◌*◌, ◌/◌, ◌%◌, ◌<◌, ◌≤◌, List, Option, None, option_map, arith, row_at, with_row_at, without_row, without_row_absent, key_of_pair, value_at, base_of, IsPut, IsPutAt, IsReplacedAt, Result, Refusal, is_ok, AccessInfoRow, access_key, access_in_range, access_type, access_with, HoldsAccesses, accesses_listed, s_id_in, subscriber_span}
+use Rattle.group_tree.proofs.TableLemmas.{AreKept, IsAtHome, Table, found_at, kept_put, kept_replaced, kept_without, left_at, missing_at, put_at, replaced_at}
 use Rattle.group_tree.proofs.TypeLemmas.{no_type, rising, s_id_of_base, typed_key}
 use Rattle.tatp_rows.proofs.RowLemmas as ranges
 
@@ -33,10 +33,6 @@ access_left key rows typed = left_at accesses rising (base_of subscriber_span ke
 
 pub access_left_there : (key : ℕ) (rows : List AccessInfoRow) → key % 256 ≢ 0 → accesses_listed (base_of subscriber_span key) rows ≡ without_row key_of_pair key (accesses_listed (base_of subscriber_span key) rows)
 access_left_there key rows other = sym (without_row_absent key_of_pair key (accesses_listed (base_of subscriber_span key) rows) (access_missing key rows other))
-
--- the rows that a group hands out, with their keys
-pub access_rows : (base : ℕ) (rows : List AccessInfoRow) → IsBase subscriber_span base → map (λ (row : AccessInfoRow). (access_key row, row)) (map (access_with (base / 65536)) (keys_from access_type 0 rows)) ≡ accesses_listed base rows
-access_rows base rows at = handed_at accesses base (λ row. omega (arith, at)) rows
 
 -- a group with other rows that keep the rules
 holds_as : (at : ℕ) (before after : List AccessInfoRow) → HoldsAccesses at before → AreKept access_type IsInGroup after → HoldsAccesses at after

@@ -1,5 +1,5 @@
 -- The keys at which groups begin: multiples of a span.
-use Rattle.group_tree.proofs.Common.{◌≡◌, ap, ℕ, ◌+◌, ◌*◌, ◌/◌, ◌<◌, ◌≤◌, nat_lt, arith, nat_tests, by_test, div-mul-le_self, lt-div-mul-add, mul-div_cancel, mul-le-mul_right, IsBase, base_of}
+use Rattle.group_tree.proofs.Common.{ap, ℕ, ◌+◌, ◌*◌, ◌/◌, ◌<◌, ◌≤◌, nat_lt, arith, nat_tests, by_test, div-mul-le_self, lt-div-mul-add, mul-div_cancel, mul-le-mul_right, IsBase, base_of}
 
 module _ (span : ℕ) (positive : 0 < span) where
   -- a key lies in the span of its group
@@ -23,17 +23,3 @@ module _ (span : ℕ) (positive : 0 < span) where
       (λ t. let no_more : b / span ≤ a / span = grind (arith, nat_tests) in
       let times : b / span * span ≤ a / span * span = mul-le-mul_right span no_more in
       absurd (omega (arith, times, at_a, at_b, less)))
-
-  -- a key in the span of a base belongs to it
-  pub base_only : (base key : ℕ) → IsBase span base → base ≤ key → key < base + span → base_of span key ≡ base
-  base_only base key at low high =
-      by_test (nat_lt base (base_of span key))
-      (λ t. let less : base < base_of span key = grind (arith, nat_tests) in
-      let step = base_step base (base_of span key) at (base_base key) less in
-      absurd (omega (arith, step, base_low key, high)))
-      (λ t. let no_less : base_of span key ≤ base = grind (arith, nat_tests) in
-      by_test (nat_lt (base_of span key) base)
-      (λ u. let less : base_of span key < base = grind (arith, nat_tests) in
-      let step = base_step (base_of span key) base (base_base key) at less in
-      absurd (omega (arith, step, base_high key, low)))
-      (λ u. let no_more : base ≤ base_of span key = grind (arith, nat_tests) in omega arith))

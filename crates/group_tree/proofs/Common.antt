@@ -28,8 +28,8 @@ pub use Rattle.tatp_rows.specs.declared.ranges.TheConstants.{LAST_SUBSCRIBER}
 pub use Rattle.tatp_rows.proofs.RowLemmas.{between_from, between_is, both_from}
 pub use Rattle.row_groups.specs.Groups.{AreAccesses, AreFacilities, AreForwardings, IsPut, access_type, access_with, facility_type, facility_with, forwarding_start, forwarding_with}
 pub use Rattle.mr_cut.specs.Cuts.{AreApart, rows_below, rows_from}
-pub use Rattle.group_tree.specs.Tables.{HoldsAccesses, HoldsFacilities, HoldsForwardings, accesses_listed, facilities_listed, facility_span, forwardings_listed, listed_by, s_id_in, subscriber_span, type_in}
-pub use Rattle.group_tree.specs.Groups.{AreGroups, IsBase, IsGroupAt, IsPutAt, IsReplacedAt, base_of, rows_beside, rows_of, Grouped, IsHeightOfGroups, AreGroupsApart, AreGroupsAt, rows_in}
+pub use Rattle.group_tree.specs.Tables.{HoldsAccesses, HoldsFacilities, HoldsForwardings, accesses_listed, facilities_listed, facility_span, forwardings_listed, listed_by, s_id_in, started_key_in, subscriber_span, type_in, typed_key_in}
+pub use Rattle.group_tree.specs.Groups.{AreGroups, HaveLaws, IsBase, IsPutAt, IsReplacedAt, base_of, rows_beside, rows_of, Grouped, IsHeightOfGroups, AreGroupsApart, AreGroupsAt, rows_in}
 pub use Rattle.mr_subtree.specs.Trees.{IsRoot}
 pub use Rattle.std.proofs.lemmas.List.Elements.{filter-append}
 pub use Rattle.group_tree.specs.Revised.{change_spent, facility_in, group_changed, row_made}

@@ -1,22 +1,17 @@
 -- Trees of groups that are cut at a key of a group, or joined.
-use Rattle.group_tree.proofs.Common.{◌≡◌, ◌∙◌, refl, sym, ap, subst, ℕ, ◌+◌, ◌<◌, ◌≤◌, nat_le, nat_lt, List, [], ◌∷◌, ◌++◌, length, arith, AllByRecursion, nat_tests, filter-append, filter_all, filter_none, each-weaker, each-append, each-left, each-right, by_test, keys_below, keys_from, ordered-append, key_of_pair, below-weaker, from-weaker, KeysBelow, KeysFrom, AreGroups, AreGroupsApart, AreApart, IsBase, Grouped, rows_of}
+use Rattle.group_tree.proofs.Common.{◌≡◌, ◌∙◌, refl, sym, ap, subst, ℕ, ◌+◌, ◌<◌, ◌≤◌, nat_le, nat_lt, List, [], ◌∷◌, ◌++◌, length, arith, AllByRecursion, nat_tests, filter-append, filter_all, filter_none, each-weaker, each-append, each-left, each-right, by_test, keys_below, keys_from, ordered-append, key_of_pair, below-weaker, from-weaker, KeysBelow, KeysFrom, AreGroups, HaveLaws, AreGroupsApart, AreApart, IsBase, Grouped, rows_of}
+use Rattle.tatp_rows.proofs.HalfLemmas.{below_each, from_each}
 use Rattle.group_tree.proofs.BaseLemmas.{base_step}
-use Rattle.group_tree.proofs.GroupsLemmas.{HaveLaws, IsFilled, rows_of-append}
+use Rattle.group_tree.proofs.PlaceLemmas.{below_span, from_base}
+use Rattle.group_tree.proofs.TreeLemmas.{front_gone}
+use Rattle.group_tree.proofs.GroupsLemmas.{IsFilled, rows_of-append}
 use Rattle.group_tree.proofs.PageLemmas.{each-filter, ordered-filter}
 
 -- rows that a key cuts lie apart at it
-cut_low : {X : Type 0} (key : ℕ) (rows : List (ℕ × X)) → KeysBelow key (keys_below key_of_pair key rows)
-cut_low key [] = tt
-cut_low key (p ∷ rows) = by_test (nat_lt p.0 key) (λ t. rw t (grind (arith, nat_tests), cut_low key rows)) (λ t. rw t (cut_low key rows))
-
-cut_high : {X : Type 0} (key : ℕ) (rows : List (ℕ × X)) → KeysFrom key (keys_from key_of_pair key rows)
-cut_high key [] = tt
-cut_high key (p ∷ rows) = by_test (nat_le key p.0) (λ t. rw t (grind (arith, nat_tests), cut_high key rows)) (λ t. rw t (cut_high key rows))
-
 pub cut_apart : {X : Type 0} (span key : ℕ) (rows : List (ℕ × X)) → IsBase span key → AreGroupsApart span (keys_below key_of_pair key rows) (keys_from key_of_pair key rows)
-cut_apart span key rows at = (key, at, cut_low key rows, cut_high key rows)
+cut_apart span key rows at = (key, at, below_each key_of_pair key rows, from_each key_of_pair key rows)
 
-module _ {G R : Type 0} {listed : ℕ → G → List (ℕ × R)} {Holds : ℕ → G → Type 0} {span : ℕ} (laws : HaveLaws listed Holds span) where
+module _ {G R : Type 0} {listed : ℕ → G → List (ℕ × R)} {Holds : ℕ → G → Type 0} {span : ℕ} {key_in : ℕ → ℕ → ℕ} (laws : HaveLaws listed Holds span key_in) where
   -- one group lies on one side of a key
   below_whole : (key : ℕ) (rows rest : List (ℕ × R)) → KeysBelow key rows → keys_below key_of_pair key (rows ++ rest) ≡ rows ++ keys_below key_of_pair key rest
   below_whole key rows rest below =
@@ -30,17 +25,13 @@ module _ {G R : Type 0} {listed : ℕ → G → List (ℕ × R)} {Holds : ℕ �
   from_whole key rows rest from =
       filter-append _ rows rest ∙ ap (λ l. l ++ keys_from key_of_pair key rest) (filter_all _ rows (each-weaker {P = λ p. key ≤ key_of_pair p} (λ p h. grind (arith, nat_tests)) rows from))
 
-  from_none : (key : ℕ) (rows rest : List (ℕ × R)) → KeysBelow key rows → keys_from key_of_pair key (rows ++ rest) ≡ keys_from key_of_pair key rest
-  from_none key rows rest below =
-      filter-append _ rows rest ∙ ap (λ l. l ++ keys_from key_of_pair key rest) (filter_none _ rows (each-weaker {P = λ p. key_of_pair p < key} (λ p h. grind (arith, nat_tests)) rows below))
-
   low_rows : (key : ℕ) (p : ℕ × G) → IsBase span key → Holds p.0 p.1 → p.0 < key → KeysBelow key (listed p.0 p.1)
   low_rows key p at holds less =
       let rules = laws.rules p.0 p.1 holds in
-      below-weaker key_of_pair (p.0 + span) key (listed p.0 p.1) (base_step span laws.positive p.0 key rules.at at less) rules.below
+      below-weaker key_of_pair (p.0 + span) key (listed p.0 p.1) (base_step span laws.positive p.0 key rules.at at less) (below_span laws p.0 p.1 holds)
 
   high_rows : (key : ℕ) (p : ℕ × G) → Holds p.0 p.1 → key ≤ p.0 → KeysFrom key (listed p.0 p.1)
-  high_rows key p holds more = let rules = laws.rules p.0 p.1 holds in from-weaker key_of_pair key p.0 (listed p.0 p.1) more rules.from
+  high_rows key p holds more = from-weaker key_of_pair key p.0 (listed p.0 p.1) more (from_base laws p.0 p.1 holds)
 
   -- the groups below a key have the rows below it
   pub rows_cut_below : (key : ℕ) (groups : List (ℕ × G)) → IsBase span key → AllByRecursion (IsFilled listed Holds span laws) groups → rows_of listed (keys_below key_of_pair key groups) ≡ keys_below key_of_pair key (rows_of listed groups)
@@ -60,7 +51,7 @@ module _ {G R : Type 0} {listed : ℕ → G → List (ℕ × R)} {Holds : ℕ �
       (λ t. let more : key ≤ p.0 = grind (arith, nat_tests) in
       rw t (ap (λ l. listed p.0 p.1 ++ l) (rows_cut_from key groups at each.1) ∙ sym (from_whole key (listed p.0 p.1) (rows_of listed groups) (high_rows key p each.0.0 more))))
       (λ t. let less : p.0 < key = grind (arith, nat_tests) in
-      rw t (rows_cut_from key groups at each.1 ∙ sym (from_none key (listed p.0 p.1) (rows_of listed groups) (low_rows key p at each.0.0 less))))
+      rw t (rows_cut_from key groups at each.1 ∙ sym (front_gone key (listed p.0 p.1) (rows_of listed groups) (low_rows key p at each.0.0 less))))
 
   pub are_below : (key : ℕ) (groups : List (ℕ × G)) → AreGroups listed Holds groups → AreGroups listed Holds (keys_below key_of_pair key groups)
   are_below key groups are = record {
@@ -76,7 +67,7 @@ module _ {G R : Type 0} {listed : ℕ → G → List (ℕ × R)} {Holds : ℕ �
 
   -- a group is on the side on which its rows are
   base_below : (key : ℕ) (p : ℕ × G) → IsFilled listed Holds span laws p → KeysBelow key (listed p.0 p.1) → p.0 < key
-  base_below key p filled below = first (listed p.0 p.1) filled.1 (laws.rules p.0 p.1 filled.0).from below
+  base_below key p filled below = first (listed p.0 p.1) filled.1 (from_base laws p.0 p.1 filled.0) below
     where
       first : (rows : List (ℕ × R)) → 1 ≤ length rows → KeysFrom p.0 rows → KeysBelow key rows → p.0 < key
       first [] some from below = absurd (omega (arith, some))
@@ -120,9 +111,6 @@ module _ {G R : Type 0} {listed : ℕ → G → List (ℕ × R)} {Holds : ℕ �
 
   pub rows_joined : (low high : List (ℕ × G)) → rows_of listed (low ++ high) ≡ rows_of listed low ++ rows_of listed high
   rows_joined low high = rows_of-append listed Holds span laws low high
-
-  pub are_none : AreGroups listed Holds []
-  are_none = record { ordered = tt; each = tt }
 
   -- the rows of two trees that lie apart, as those of their groups
   pub apart_inside : (low low_now high high_now : Grouped R) → low ≡ low_now → high ≡ high_now → AreGroupsApart span low_now.rows high_now.rows → AreGroupsApart span low.rows high.rows

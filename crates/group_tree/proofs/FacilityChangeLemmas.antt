@@ -1,9 +1,8 @@
 -- What becomes of a tree of facilities when one is changed where it lies in its group.
 use Rattle.group_tree.proofs.Common.{◌≡◌, ◌∙◌, refl, sym, ap, subst, ℕ, ◌/◌, ◌%◌, ◌==◌, true, List, [], ◌∷◌, Option, Some, None, IfSome, option_map, arith, nat_tests, by_test, unwrap_or, with_row_at, key_of_pair, value_at, revised_at, revised_none, revised_some, spent_at, AreGroups, Grouped, base_of, rows_of, is_between, LAST_SUBSCRIBER, SpecialFacilityRow, facility_in_range, facility_key, facility_type, facility_with, HoldsFacilities, facilities_listed, subscriber_span, facility_in, group_changed, change_spent, row_made}
 use Rattle.group_tree.specs.declared.facility_change.FacilityChange.{FacilityChange}
-use Rattle.group_tree.specs.Rules.{facility_group_rules, span_positive}
+use Rattle.group_tree.specs.Rules.{facility_laws}
 use Rattle.group_tree.proofs.FacilityLemmas.{facility_found, facility_missing, facility_replaced, holds_replaced}
-use Rattle.group_tree.proofs.GroupsLemmas.{HaveLaws}
 use Rattle.group_tree.proofs.TreeLemmas.{its_rules, its_value, none_there, replaced_are, replaced_there}
 use Rattle.group_tree.proofs.TypeLemmas.{s_id_of_base}
 
@@ -26,16 +25,13 @@ same_put key v (p ∷ rows) e =
     rw t (ap (λ (k : ℕ). (k, v) ∷ rows) (sym at) ∙ ap (λ x. (p.0, x) ∷ rows) (sym own)))
     (λ t. rw t (ap (λ rest. p ∷ rest) (same_put key v rows (rw t at e))))
 
-laws : HaveLaws facilities_listed HoldsFacilities subscriber_span
-laws = record { positive = span_positive; rules = facility_group_rules }
-
 module _ (groups : List (ℕ × List SpecialFacilityRow)) (are : AreGroups facilities_listed HoldsFacilities groups) (key : ℕ) where
   -- the facility is where its group has it
   in_group : (group : List SpecialFacilityRow) → Some group ≡ value_at (base_of subscriber_span key) groups → facility_in key group ≡ value_at key (rows_of facilities_listed groups)
-  in_group group there = its_value laws are key refl group there (facility_in key group) (by_test (key % 256 == 0)
+  in_group group there = its_value facility_laws are key refl group there (facility_in key group) (by_test (key % 256 == 0)
       (λ t.
       let typed : key % 256 ≡ 0 = grind (arith, nat_tests) in
-      let holds = its_rules laws are key refl group there in
+      let holds = its_rules facility_laws are key refl group there in
       let in_range : is_between 1 LAST_SUBSCRIBER (key / 65536) ≡ true = subst (λ (s_id : ℕ). is_between 1 LAST_SUBSCRIBER s_id ≡ true) (s_id_of_base key) holds.s_id in
       rw (t, in_range) (facility_found key group typed))
       (λ t. rw t (sym (ap (option_map (λ p. p.1)) (facility_missing key group (λ e. let wrong : (key % 256 == 0) ≡ true = grind (arith, nat_tests) in cc))))))
@@ -69,7 +65,7 @@ module _ (groups : List (ℕ × List SpecialFacilityRow)) (are : AreGroups facil
       kept = subst (λ o. IfSome o (λ row. facility_key (change row) ≡ key)) there keeps
 
       its_group : (found : Option (List SpecialFacilityRow)) → value_at (base_of subscriber_span key) groups ≡ found → (group : List SpecialFacilityRow) × (value_at (base_of subscriber_span key) groups ≡ Some group)
-      its_group None e = absurd (let missing = none_there laws are key refl (sym e) in cc)
+      its_group None e = absurd (let missing = none_there facility_laws are key refl (sym e) in cc)
       its_group (Some group) e = (group, e)
 
       group : List SpecialFacilityRow
@@ -95,12 +91,12 @@ module _ (groups : List (ℕ × List SpecialFacilityRow)) (are : AreGroups facil
 
       pub changed_are : AreGroups facilities_listed HoldsFacilities after
       changed_are =
-          rw after_is (replaced_are laws are key refl group (sym group_is) changed (change old) listed_is (holds_replaced (change old) in_range (base_of subscriber_span key) group changed (its_rules laws are key refl group (sym group_is)) refl))
+          rw after_is (replaced_are facility_laws are key refl group (sym group_is) changed (change old) listed_is (holds_replaced (change old) in_range (base_of subscriber_span key) group changed (its_rules facility_laws are key refl group (sym group_is)) refl))
 
       pub changed_rows : rows_of facilities_listed after ≡ revised_at key change (rows_of facilities_listed groups)
       changed_rows =
           ap (rows_of facilities_listed) after_is
-          ∙ replaced_there laws are key refl group (sym group_is) changed (change old) listed_is
+          ∙ replaced_there facility_laws are key refl group (sym group_is) changed (change old) listed_is
           ∙ sym (revised_some key change old (rows_of facilities_listed groups) there)
 
   -- what changes the facility, after that, and the row that it made
@@ -120,14 +116,14 @@ module _ (groups : List (ℕ × List SpecialFacilityRow)) (are : AreGroups facil
         by_facility (Some row) = refl
 
         by_group : (found : Option (List SpecialFacilityRow)) → value_at (base_of subscriber_span key) groups ≡ found → (unwrap_or (option_map (change_after spent revised within) (value_at (base_of subscriber_span key) groups)) within).change.now ≡ spent_at key spent within.change.now (rows_of facilities_listed groups)
-        by_group None e = rw (e, ← none_there laws are key refl (sym e)) refl
+        by_group None e = rw (e, ← none_there facility_laws are key refl (sym e)) refl
         by_group (Some group) e = rw e (by_facility (facility_in within.key group) ∙ ap (λ o. unwrap_or (option_map (spent within.change.now) o) within.change.now) (its_facility group (sym e)))
 
     pub made_is : later.made ≡ row_made (revised within.change.now) None (value_at key (rows_of facilities_listed groups))
     made_is = ap (λ (w : FacilityChange E). w.made) later_is ∙ by_group (value_at (base_of subscriber_span key) groups) refl
       where
         by_group : (found : Option (List SpecialFacilityRow)) → value_at (base_of subscriber_span key) groups ≡ found → (unwrap_or (option_map (change_after spent revised within) (value_at (base_of subscriber_span key) groups)) within).made ≡ row_made (revised within.change.now) None (value_at key (rows_of facilities_listed groups))
-        by_group None e = rw (e, ← none_there laws are key refl (sym e)) fresh
+        by_group None e = rw (e, ← none_there facility_laws are key refl (sym e)) fresh
         by_group (Some group) e = rw e (ap (λ o. row_made (revised within.change.now) o (facility_in within.key group)) fresh ∙ ap (row_made (revised within.change.now) None) (its_facility group (sym e)))
 
     pub same_reference : later.change.ghost_name ≡ within.change.ghost_name

@@ -1,6 +1,6 @@
 -- Groups of Special_Facility rows at their keys.
-use Rattle.group_tree.proofs.Common.{◌≡◌, ◌≢◌, ◌∙◌, refl, sym, ap, true, ℕ, ◌+◌, ◌*◌, ◌/◌, ◌%◌, ◌<◌, ◌≤◌, List, Option, None, map, keys_from, option_map, arith, row_at, with_row_at, without_row, without_row_absent, key_of_pair, value_at, base_of, IsBase, IsPut, IsPutAt, IsReplacedAt, Result, Refusal, is_ok, SpecialFacilityRow, facility_key, facility_in_range, facility_type, facility_with, HoldsFacilities, facilities_listed, s_id_in, subscriber_span}
-use Rattle.group_tree.proofs.TableLemmas.{AreKept, IsAtHome, Table, found_at, handed_at, kept_put, kept_replaced, kept_without, left_at, missing_at, put_at, replaced_at}
+use Rattle.group_tree.proofs.Common.{◌≡◌, ◌≢◌, ◌∙◌, refl, sym, ap, true, ℕ, ◌+◌, ◌*◌, ◌/◌, ◌%◌, ◌<◌, ◌≤◌, List, Option, None, option_map, arith, row_at, with_row_at, without_row, without_row_absent, key_of_pair, value_at, base_of, IsPut, IsPutAt, IsReplacedAt, Result, Refusal, is_ok, SpecialFacilityRow, facility_key, facility_in_range, facility_type, facility_with, HoldsFacilities, facilities_listed, s_id_in, subscriber_span}
+use Rattle.group_tree.proofs.TableLemmas.{AreKept, IsAtHome, Table, found_at, kept_put, kept_replaced, kept_without, left_at, missing_at, put_at, replaced_at}
 use Rattle.group_tree.proofs.TypeLemmas.{no_type, rising, s_id_of_base, typed_key}
 use Rattle.tatp_rows.proofs.RowLemmas as ranges
 
@@ -33,10 +33,6 @@ facility_left key rows typed = left_at facilities rising (base_of subscriber_spa
 
 pub facility_left_there : (key : ℕ) (rows : List SpecialFacilityRow) → key % 256 ≢ 0 → facilities_listed (base_of subscriber_span key) rows ≡ without_row key_of_pair key (facilities_listed (base_of subscriber_span key) rows)
 facility_left_there key rows other = sym (without_row_absent key_of_pair key (facilities_listed (base_of subscriber_span key) rows) (facility_missing key rows other))
-
--- the rows that a group hands out, with their keys
-pub facility_rows : (base : ℕ) (rows : List SpecialFacilityRow) → IsBase subscriber_span base → map (λ (row : SpecialFacilityRow). (facility_key row, row)) (map (facility_with (base / 65536)) (keys_from facility_type 0 rows)) ≡ facilities_listed base rows
-facility_rows base rows at = handed_at facilities base (λ row. omega (arith, at)) rows
 
 -- a group with other rows that keep the rules
 holds_as : (at : ℕ) (before after : List SpecialFacilityRow) → HoldsFacilities at before → AreKept facility_type IsInGroup after → HoldsFacilities at after

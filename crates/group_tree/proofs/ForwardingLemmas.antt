@@ -1,6 +1,6 @@
 -- Groups of Call_Forwarding rows at their keys.
-use Rattle.group_tree.proofs.Common.{◌≡◌, ◌∙◌, refl, sym, ap, true, ◌⊎◌, inl, inr, IsTrue, is_start_time, type_in, ℕ, ◌+◌, ◌/◌, ◌%◌, ◌<◌, List, Option, map, keys_from, option_map, arith, row_at, with_row_at, without_row, key_of_pair, value_at, base_of, IsBase, IsPut, IsPutAt, IsReplacedAt, Result, Refusal, is_ok, CallForwardingRow, forwarding_key, forwarding_in_range, forwarding_start, forwarding_with, HoldsForwardings, forwardings_listed, s_id_in, facility_span}
-use Rattle.group_tree.proofs.TableLemmas.{AreKept, IsAtHome, Table, found_at, handed_at, kept_put, kept_replaced, kept_without, left_at, put_at, replaced_at}
+use Rattle.group_tree.proofs.Common.{◌≡◌, ◌∙◌, refl, sym, ap, true, ◌⊎◌, inl, inr, IsTrue, is_start_time, type_in, ℕ, ◌+◌, ◌/◌, ◌%◌, ◌<◌, List, Option, option_map, arith, row_at, with_row_at, without_row, key_of_pair, value_at, base_of, IsPut, IsPutAt, IsReplacedAt, Result, Refusal, is_ok, CallForwardingRow, forwarding_key, forwarding_in_range, forwarding_start, forwarding_with, HoldsForwardings, forwardings_listed, s_id_in, facility_span}
+use Rattle.group_tree.proofs.TableLemmas.{AreKept, IsAtHome, Table, found_at, kept_put, kept_replaced, kept_without, left_at, put_at, replaced_at}
 use Rattle.group_tree.proofs.HourLemmas.{rising, s_id_of_base, started_key, type_of_base}
 use Rattle.tatp_rows.proofs.RowLemmas as ranges
 
@@ -28,10 +28,6 @@ forwarding_found key rows =
 
 pub forwarding_left : (key : ℕ) (rows : List CallForwardingRow) → forwardings_listed (base_of facility_span key) (without_row forwarding_start (key % 256) rows) ≡ without_row key_of_pair key (forwardings_listed (base_of facility_span key) rows)
 forwarding_left key rows = left_at forwardings rising (base_of facility_span key) key (key % 256) rows (started_key key)
-
--- the rows that a group hands out, with their keys
-pub forwarding_rows : (base : ℕ) (rows : List CallForwardingRow) → IsBase facility_span base → map (λ (row : CallForwardingRow). (forwarding_key row, row)) (map (forwarding_with (base / 65536) (base / 256 % 256)) (keys_from forwarding_start 0 rows)) ≡ forwardings_listed base rows
-forwarding_rows base rows at = handed_at forwardings base (λ row. omega (arith, at)) rows
 
 -- a group with other rows that keep the rules
 holds_as : (at : ℕ) (before after : List CallForwardingRow) → HoldsForwardings at before → AreKept forwarding_start IsInGroup after → HoldsForwardings at after

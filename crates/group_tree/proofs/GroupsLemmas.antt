@@ -1,13 +1,9 @@
 -- What an edit of one group does to the rows of all groups.
-use Rattle.group_tree.proofs.Common.{◌≡◌, ◌∙◌, refl, sym, ap, subst, ℕ, ◌+◌, ◌<◌, ◌≤◌, ◌==◌, nat_lt, List, [], ◌∷◌, ◌++◌, length, Option, Some, None, arith, append_assoc, AllByRecursion, nat_tests, IsOrderedBy, row_at, with_row, with_row_at, without_row, each-append, absent_below, by_test, each-weaker, below-weaker, from-weaker, row_at-part, with_row-part, with_row_at-part, without_row-part, KeysBelow, KeysFrom, key_of_pair, value_at, IsBase, IsGroupAt, base_of, rows_of}
+use Rattle.group_tree.proofs.Common.{◌≡◌, ◌∙◌, refl, sym, ap, subst, ℕ, ◌+◌, ◌*◌, ◌<◌, ◌≤◌, ◌==◌, nat_lt, List, [], ◌∷◌, ◌++◌, length, length-append, Option, Some, None, arith, append_assoc, AllByRecursion, nat_tests, IsOrderedBy, row_at, with_row, with_row_at, without_row, each-append, absent_below, by_test, each-weaker, below-weaker, from-weaker, row_at-part, with_row-part, with_row_at-part, without_row-part, KeysBelow, KeysFrom, key_of_pair, value_at, HaveLaws, IsBase, base_of, rows_of}
+use Rattle.group_tree.proofs.PlaceLemmas.{below_span, four_rows, from_base}
 use Rattle.group_tree.proofs.BaseLemmas.{base_base, base_high, base_low, base_step}
 
--- the laws of groups: they lie a span apart, and keep the rules of a group
-pub record HaveLaws {G R : Type 0} (listed : ℕ → G → List (ℕ × R)) (Holds : ℕ → G → Type 0) (span : ℕ) : Type 0 where
-  pub positive : 0 < span
-  pub rules : (base : ℕ) (group : G) → Holds base group → IsGroupAt span base (listed base group)
-
-module _ {G R : Type 0} (listed : ℕ → G → List (ℕ × R)) (Holds : ℕ → G → Type 0) (span : ℕ) (laws : HaveLaws listed Holds span) where
+module _ {G R : Type 0} (listed : ℕ → G → List (ℕ × R)) (Holds : ℕ → G → Type 0) (span : ℕ) {key_in : ℕ → ℕ → ℕ} (laws : HaveLaws listed Holds span key_in) where
   -- a group that holds, and isn't empty
   abbrev pub IsFilled : ℕ × G → Type 0
   IsFilled p = Holds p.0 p.1 × (1 ≤ length (listed p.0 p.1))
@@ -17,12 +13,17 @@ module _ {G R : Type 0} (listed : ℕ → G → List (ℕ × R)) (Holds : ℕ �
   rows_of-append [] b = refl
   rows_of-append (p ∷ a) b = ap (λ rows. listed p.0 p.1 ++ rows) (rows_of-append a b) ∙ sym (append_assoc (listed p.0 p.1) (rows_of listed a) (rows_of listed b))
 
+  -- there are four rows at most for each group
+  pub few_rows : (groups : List (ℕ × G)) → AllByRecursion (λ p. Holds p.0 p.1) groups → length (rows_of listed groups) ≤ 4 * length groups
+  few_rows [] each = omega arith
+  few_rows (p ∷ groups) each = omega (arith, few_rows groups each.1, four_rows laws p.0 p.1 each.0, length-append (listed p.0 p.1) (rows_of listed groups))
+
   -- the rows of groups that lie from a key on, and of groups that lie a span below it
   pub rows_from : (k : ℕ) (groups : List (ℕ × G)) → AllByRecursion IsFilled groups → KeysFrom k groups → KeysFrom k (rows_of listed groups)
   rows_from k [] each from = tt
   rows_from k (p ∷ groups) each from =
       each-append (λ q. k ≤ key_of_pair q) (listed p.0 p.1) (rows_of listed groups)
-      (from-weaker key_of_pair k p.0 (listed p.0 p.1) from.0 (laws.rules p.0 p.1 each.0.0).from)
+      (from-weaker key_of_pair k p.0 (listed p.0 p.1) from.0 (from_base laws p.0 p.1 each.0.0))
       (rows_from k groups each.1 from.1)
 
   pub rows_below : (k : ℕ) (groups : List (ℕ × G)) → IsBase span k → AllByRecursion IsFilled groups → KeysBelow k groups → KeysBelow k (rows_of listed groups)
@@ -30,7 +31,7 @@ module _ {G R : Type 0} (listed : ℕ → G → List (ℕ × R)) (Holds : ℕ �
   rows_below k (p ∷ groups) at each below =
       let group = laws.rules p.0 p.1 each.0.0 in
       each-append (λ q. key_of_pair q < k) (listed p.0 p.1) (rows_of listed groups)
-      (below-weaker key_of_pair (p.0 + span) k (listed p.0 p.1) (base_step span laws.positive p.0 k group.at at below.0) group.below)
+      (below-weaker key_of_pair (p.0 + span) k (listed p.0 p.1) (base_step span laws.positive p.0 k group.at at below.0) (below_span laws p.0 p.1 each.0.0))
       (rows_below k groups at each.1 below.1)
 
   -- groups around a key: those in front of it, what stands at it, and those behind it

@@ -1,7 +1,5 @@
 -- Keys of rows that have a type and a start time.
-use Rattle.group_tree.proofs.Common.{◌≡◌, ℕ, ◌+◌, ◌*◌, ◌/◌, ◌%◌, ◌<◌, List, AllByRecursion, each-weaker, arith, IsTrue, is_start_time, CallForwardingRow, forwarding_start, base_of, s_id_in, facility_span, type_in}
-use Rattle.group_tree.specs.Rules.{start_eighth}
-use Rattle.group_tree.proofs.WalkLemmas.{HaveGap}
+use Rattle.group_tree.proofs.Common.{◌≡◌, ℕ, ◌+◌, ◌/◌, ◌%◌, ◌<◌, arith, base_of, s_id_in, facility_span, type_in}
 
 -- keys rise with start times
 pub rising : (base low high : ℕ) → low < high → base + low < base + high
@@ -16,7 +14,3 @@ type_of_base key = omega arith
 
 pub started_key : (key : ℕ) → base_of facility_span key + key % 256 ≡ key
 started_key key = omega arith
-
--- no hour lies between two successive ones
-pub hours_apart : (n : ℕ) (rows : List CallForwardingRow) → AllByRecursion (λ row. (row.s_id ≡ 0) × (row.sf_type ≡ 0) × IsTrue (is_start_time row.start_time)) rows → HaveGap forwarding_start (8 * n) (8 * (n + 1)) rows
-hours_apart n rows each = each-weaker (λ row h. λ less. let e = start_eighth row.start_time h.2 in let same = e.0 in omega arith) rows each

@@ -1,5 +1,6 @@
 pub mod Common
 pub mod BaseLemmas
+pub mod PlaceLemmas
 pub mod GroupsLemmas
 pub mod TreeLemmas
 pub mod PlacedLemmas

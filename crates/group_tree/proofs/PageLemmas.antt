@@ -1,8 +1,11 @@
 -- The rows of groups one after another, from a key on.
-use Rattle.group_tree.proofs.Common.{AreGroupsAt, rows_beside, rows_in, length-map, ◌≡◌, ◌∙◌, refl, sym, ap, subst, ℕ, zero, suc, IfSome, ◌+◌, ◌*◌, ◌<◌, ◌≤◌, nat_le, true, false, Bool, List, [], ◌∷◌, ◌++◌, length, map, take, get_or, take_more, Option, Some, None, arith, append_assoc, append-nil, length-append, length-take, AllByRecursion, filter, nat_tests, filter-append, each-weaker, each-left, by_test, keys_from, IsOrderedBy, key_of_pair, value_at, below-weaker, from-weaker, key_limit, AreGroups, base_of, rows_of, IsPage, FoldsRows, folds_append, Bor}
+use Rattle.group_tree.proofs.Common.{AreGroupsAt, rows_beside, rows_in, length-map, ◌≡◌, ◌∙◌, refl, sym, ap, subst, ℕ, zero, suc, IfSome, ◌+◌, ◌*◌, ◌<◌, ◌≤◌, nat_le, true, false, Bool, List, [], ◌∷◌, ◌++◌, length, map, take, get_or, take_more, Option, Some, None, arith, append_assoc, append-nil, length-append, length-take, AllByRecursion, filter, nat_tests, filter-append, each-weaker, each-left, by_test, keys_from, IsOrderedBy, key_of_pair, value_at, below-weaker, from-weaker, key_limit, AreGroups, HaveLaws, base_of, rows_of, IsPage, FoldsRows, folds_append, Bor}
+use Rattle.std.specs.Option.{option_to_list}
+use Rattle.tatp_rows.proofs.HalfLemmas.{from_all}
 use Rattle.group_tree.proofs.BaseLemmas.{base_base, base_high, base_low}
-use Rattle.group_tree.proofs.GroupsLemmas.{Around, HaveLaws, IsFilled, rows_below, rows_from, rows_of-append}
-use Rattle.group_tree.proofs.TreeLemmas.{all_kept, beside, front_gone, its_rules, its_value, none_beside, none_there, some_beside}
+use Rattle.group_tree.proofs.GroupsLemmas.{Around, IsFilled, few_rows, rows_below, rows_from, rows_of-append}
+use Rattle.group_tree.proofs.PlaceLemmas.{four_rows}
+use Rattle.group_tree.proofs.TreeLemmas.{beside, front_gone, its_rules, its_value, none_beside, none_there, some_beside}
 
 -- the keys from 0 on are all
 pub from_zero : {R : Type 0} (rows : List (ℕ × R)) → keys_from key_of_pair 0 rows ≡ rows
@@ -27,32 +30,35 @@ ordered-filter key test (x ∷ xs) ordered =
     (λ t. rw t (each-filter (λ y. key x < key y) test xs ordered.0, ordered-filter key test xs ordered.1))
     (λ t. rw t (ordered-filter key test xs ordered.1))
 
--- one row more that is pushed, or isn't
-module _ {R : Type 0} (before : List (ℕ × R)) (key : ℕ) (rows : List (ℕ × R)) (i : ℕ) (p : ℕ × R) (within : i < length rows) (read : p ≡ get_or rows i p) where
-  one_more : keys_from key_of_pair key (take (i + 1) rows) ≡ keys_from key_of_pair key (take i rows) ++ keys_from key_of_pair key (p ∷ [])
-  one_more =
-      ap (keys_from key_of_pair key) (take_more rows i p within)
-      ∙ filter-append _ (take i rows) (get_or rows i p ∷ [])
-      ∙ ap (λ q. keys_from key_of_pair key (take i rows) ++ keys_from key_of_pair key (q ∷ [])) (sym read)
+-- a page with the rows of the first places, and then with those of one place more
+module _ {R : Type 0} (before : List (ℕ × R)) (key : ℕ) (first page : List (ℕ × R)) (so_far : page ≡ before ++ keys_from key_of_pair key first) where
+  module _ (next : List (ℕ × R)) (found : Option (ℕ × R)) (more : next ≡ first ++ option_to_list found) where
+    put_more : page ++ keys_from key_of_pair key (option_to_list found) ≡ before ++ keys_from key_of_pair key next
+    put_more =
+        let kept = keys_from key_of_pair key (option_to_list found) in
+        ap (λ l. l ++ kept) so_far ∙ append_assoc before (keys_from key_of_pair key first) kept
+        ∙ ap (λ l. before ++ l) (sym (ap (keys_from key_of_pair key) more ∙ filter-append _ first (option_to_list found)))
 
-  pub pushed_more : (page : List (ℕ × R)) → key ≤ p.0 → page ≡ before ++ keys_from key_of_pair key (take i rows) → page ++ (p ∷ []) ≡ before ++ keys_from key_of_pair key (take (i + 1) rows)
-  pushed_more page from so_far =
-      let t : nat_le key p.0 ≡ true = grind (arith, nat_tests) in
-      let kept : keys_from key_of_pair key (p ∷ []) ≡ p ∷ [] = rw t refl in
-      ap (λ l. l ++ (p ∷ [])) so_far ∙ append_assoc before (keys_from key_of_pair key (take i rows)) (p ∷ [])
-      ∙ ap (λ l. before ++ l) (ap (λ l. keys_from key_of_pair key (take i rows) ++ l) (sym kept) ∙ sym one_more)
+    pub pushed_row : (p : ℕ × R) → Some p ≡ found → key ≤ p.0 → page ++ (p ∷ []) ≡ before ++ keys_from key_of_pair key next
+    pushed_row p is from =
+        let t : nat_le key p.0 ≡ true = grind (arith, nat_tests) in
+        let kept : keys_from key_of_pair key (option_to_list (Some p)) ≡ p ∷ [] = rw t refl in
+        ap (λ l. page ++ l) (sym kept ∙ ap (λ o. keys_from key_of_pair key (option_to_list o)) is) ∙ put_more
 
-  pub pushed_none : (page : List (ℕ × R)) → p.0 < key → page ≡ before ++ keys_from key_of_pair key (take i rows) → page ≡ before ++ keys_from key_of_pair key (take (i + 1) rows)
-  pushed_none page below so_far =
-      let t : nat_le key p.0 ≡ false = grind (arith, nat_tests) in
-      let kept : keys_from key_of_pair key (p ∷ []) ≡ [] = rw t refl in
-      so_far ∙ ap (λ l. before ++ l) (sym (one_more ∙ ap (λ l. keys_from key_of_pair key (take i rows) ++ l) kept ∙ append-nil (keys_from key_of_pair key (take i rows))))
+    pub passed_row : (p : ℕ × R) → Some p ≡ found → p.0 < key → page ≡ before ++ keys_from key_of_pair key next
+    passed_row p is below =
+        let t : nat_le key p.0 ≡ false = grind (arith, nat_tests) in
+        let kept : keys_from key_of_pair key (option_to_list (Some p)) ≡ [] = rw t refl in
+        sym (append-nil page) ∙ ap (λ l. page ++ l) (sym kept ∙ ap (λ o. keys_from key_of_pair key (option_to_list o)) is) ∙ put_more
 
--- there is room for one more
-pub pushed_room : {R : Type 0} (before : List (ℕ × R)) (key : ℕ) (rows : List (ℕ × R)) (i : ℕ) (page : List (ℕ × R)) → page ≡ before ++ keys_from key_of_pair key (take i rows) → i < length rows → length before + length rows ≤ 132 → length page < 132
-pushed_room before key rows i page so_far within room =
-    let few = filter_fewer (λ p. nat_le key (key_of_pair p)) (take i rows) in
-    rw so_far (omega (arith, few, within, room, length-append before (keys_from key_of_pair key (take i rows)), length-take i rows))
+    pub passed_none : None ≡ found → page ≡ before ++ keys_from key_of_pair key next
+    passed_none is = sym (append-nil page) ∙ ap (λ o. page ++ keys_from key_of_pair key (option_to_list o)) is ∙ put_more
+
+  -- the page has room for one more row
+  pub pushed_room : length before ≤ 128 → length first < 4 → length page < 132
+  pushed_room room few =
+      let kept = filter_fewer (λ p. nat_le key (key_of_pair p)) first in
+      rw so_far (omega (arith, kept, few, room, length-append before (keys_from key_of_pair key first)))
 
 -- what holds of each holds of one that is read, and of the first ones
 pub each_at : {X : Type 0} (P : X → Type 0) (xs : List X) (i : ℕ) (x : X) → AllByRecursion P xs → i < length xs → x ≡ get_or xs i x → P x
@@ -65,7 +71,7 @@ each_take P zero xs each = tt
 each_take P (suc n) [] each = tt
 each_take P (suc n) (x ∷ xs) each = (each.0, each_take P n xs each.1)
 
-module _ {G R : Type 0} {listed : ℕ → G → List (ℕ × R)} {Holds : ℕ → G → Type 0} {span : ℕ} (laws : HaveLaws listed Holds span) where
+module _ {G R : Type 0} {listed : ℕ → G → List (ℕ × R)} {Holds : ℕ → G → Type 0} {span : ℕ} {key_in : ℕ → ℕ → ℕ} (laws : HaveLaws listed Holds span key_in) where
   -- a walk over groups is one over their rows
   pub walked_groups : {A : Type 0} (Gives : A → ℕ → Bor R → A → Type 0) (Steps : A → ℕ → Bor G → A → Type 0) → ((a b : A) (k : ℕ) (r : Bor G) → Holds k r.now → Steps a k r b → FoldsRows Gives a (listed k r.now) b)
       → (groups : List (ℕ × G)) → AllByRecursion (IsFilled listed Holds span laws) groups → (a b : A) → FoldsRows Steps a groups b → FoldsRows Gives a (rows_of listed groups) b
@@ -84,15 +90,10 @@ module _ {G R : Type 0} {listed : ℕ → G → List (ℕ × R)} {Holds : ℕ �
       (sym (ap (rows_of listed) (take_more groups i p within ∙ ap (λ q. take i groups ++ (q ∷ [])) (sym read))
       ∙ rows_of-append listed Holds span laws (take i groups) (p ∷ []) ∙ ap (λ l. rows_of listed (take i groups) ++ l) (append-nil (listed p.0 p.1))))
 
-  -- there are four rows at most for each group
-  pub few_pushed : (groups : List (ℕ × G)) → AllByRecursion (λ p. Holds p.0 p.1) groups → length (rows_of listed groups) ≤ 4 * length groups
-  few_pushed [] each = omega arith
-  few_pushed (p ∷ groups) each = omega (arith, few_pushed groups each.1, (laws.rules p.0 p.1 each.0).few, length-append (listed p.0 p.1) (rows_of listed groups))
-
-  -- so a page with room for all has room for those of one more
+  -- a page with room for all has room for those of one more
   pub room_for : (before : List (ℕ × R)) (groups : List (ℕ × G)) (i : ℕ) (page : List (ℕ × R)) → AllByRecursion (λ p. Holds p.0 p.1) groups → page ≡ before ++ rows_of listed (take i groups) → i < length groups → length before + 4 * length groups ≤ 132 → length page ≤ 128
   room_for before groups i page each so_far within room =
-      let few = few_pushed (take i groups) (each_take (λ p. Holds p.0 p.1) i groups each) in
+      let few = few_rows listed Holds span laws (take i groups) (each_take (λ p. Holds p.0 p.1) i groups each) in
       rw so_far (omega (arith, few, within, room, length-append before (rows_of listed (take i groups)), length-take i groups))
 
   -- the rows from a key on are those of its group, and those of all groups behind it
@@ -109,12 +110,12 @@ module _ {G R : Type 0} {listed : ℕ → G → List (ℕ × R)} {Holds : ℕ �
       ap (keys_from key_of_pair from) a.list
       ∙ front_gone from a.front (here ++ a.back) (below-weaker key_of_pair base from a.front low a.below)
       ∙ filter-append _ here a.back ∙ ap (λ l. l ++ keys_from key_of_pair from a.back) none
-      ∙ all_kept from a.back (from-weaker key_of_pair from (base + span) a.back high a.behind) in
+      ∙ from_all key_of_pair from a.back (from-weaker key_of_pair from (base + span) a.back high a.behind) in
       ap (λ gs. keys_from key_of_pair key (rows_of listed gs)) a.list
       ∙ ap (keys_from key_of_pair key) (rows_of-append listed Holds span laws a.front (here ++ a.back) ∙ ap (λ l. front ++ l) (rows_of-append listed Holds span laws here a.back))
       ∙ front_gone key front (own ++ back) (below-weaker key_of_pair base key front (base_low span laws.positive key) (rows_below listed Holds span laws base a.front (base_base span laws.positive key) a.front_each a.below))
       ∙ filter-append _ own back
-      ∙ ap (λ l. keys_from key_of_pair key own ++ l) (all_kept key back (from-weaker key_of_pair key (base + span) back far behind))
+      ∙ ap (λ l. keys_from key_of_pair key own ++ l) (from_all key_of_pair key back (from-weaker key_of_pair key (base + span) back far behind))
       ∙ ap (λ gs. keys_from key_of_pair key own ++ rows_of listed gs) (sym others)
 
   module _ (groups : List (ℕ × G)) (are : AreGroups listed Holds groups) (key base : ℕ) (at : base ≡ base_of span key) where
@@ -141,9 +142,8 @@ module _ {G R : Type 0} {listed : ℕ → G → List (ℕ × R)} {Holds : ℕ �
       -- its rows are four at most, and its keys are small
       pub started_few : (page new : List (ℕ × R)) → page ≡ [] → new ≡ page ++ keys_from key_of_pair key (listed base group) → length new ≤ 4
       started_few page new none step =
-          let rules = laws.rules base group started_holds in
           let few = filter_fewer (λ p. nat_le key (key_of_pair p)) (listed base group) in
-          rw (step, none) (omega (arith, few, rules.few))
+          rw (step, none) (omega (arith, few, four_rows laws base group started_holds))
 
       pub started_small : key + 1 ≤ key_limit
       started_small =

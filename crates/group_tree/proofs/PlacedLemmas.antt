@@ -1,5 +1,6 @@
--- A group's rows with their keys, where keys rise with the rows' places.
-use Rattle.group_tree.proofs.Common.{◌≡◌, ◌≢◌, ◌∙◌, refl, sym, ap, ℕ, ◌<◌, ◌==◌, nat_lt, true, false, List, [], ◌∷◌, Option, Some, None, option_map, IsSome, arith, nat_tests, by_test, row_at, with_row, with_row_at, without_row, key_of_pair, value_at, IsPutAt, Result, Ok, Err, Refusal, is_ok, listed_by, IsPut}
+-- A group's rows with their keys, where keys rise with what numbers the rows.
+use Rattle.group_tree.proofs.Common.{◌≡◌, ◌≢◌, ◌∙◌, refl, sym, ap, ℕ, ◌<◌, ◌==◌, nat_lt, true, false, List, [], ◌∷◌, Option, Some, None, option_map, IsSome, arith, nat_tests, by_test, row_at, with_row, with_row_at, without_row, key_of_pair, value_at, IsPutAt, Result, Ok, Err, Refusal, is_ok, key_found, listed_by, IsPut}
+use Rattle.row_groups.proofs.FilledLemmas.{none_mapped}
 
 module _ {R : Type 0} (key_at : ℕ → ℕ) (rising : (low high : ℕ) → low < high → key_at low < key_at high) (place : R → ℕ) (with : R → R) where
   -- keys are alike where places are, and lie as they do
@@ -84,3 +85,19 @@ module _ {R : Type 0} (key_at : ℕ → ℕ) (rising : (low high : ℕ) → low 
       there : (found : Option R) → IsSome found → row_at key_of_pair (key_at (place y)) (listed_by key_at place with before) ≡ option_map (λ row. (key_at (place row), with row)) found → IsSome (row_at key_of_pair (key_at (place y)) (listed_by key_at place with before))
       there None some e = let wrong : ⊥ = cc in absurd wrong
       there (Some row) some e = rw e refl
+
+-- the row that is found with a number among its own lies at that number's key, and none does if none is found
+pub found_listed : {R : Type 0} (key_at : ℕ → ℕ) (rising : (low high : ℕ) → low < high → key_at low < key_at high) (place : R → ℕ) (with : R → R) (n : ℕ) (row : R) (rows : List R) → Some row ≡ option_map with (row_at place n rows)
+    → ◌≡◌ {A = Option (ℕ × R)} (Some (key_at n, row)) (row_at key_of_pair (key_at n) (listed_by key_at place with rows))
+found_listed {R = R} key_at rising place with n row rows is = found (row_at place n rows) refl is ∙ sym (row_at-listed key_at rising place with n rows)
+  where
+    found : (x : Option R) → row_at place n rows ≡ x → Some row ≡ option_map with x → ◌≡◌ {A = Option (ℕ × R)} (Some (key_at n, row)) (option_map (λ row. (key_at (place row), with row)) x)
+    found None there made = let wrong : ⊥ = cc in absurd wrong
+    found (Some x) there made =
+        let own : row ≡ with x = cc in
+        ap (λ (i : ℕ). Some (key_at i, row)) (sym (key_found place n rows x there)) ∙ ap (λ (r : R). Some (key_at (place x), r)) own
+
+pub missing_listed : {R S : Type 0} (key_at : ℕ → ℕ) (rising : (low high : ℕ) → low < high → key_at low < key_at high) (place : R → ℕ) (with : R → R) (other : R → S) (n : ℕ) (rows : List R) → None ≡ option_map other (row_at place n rows)
+    → ◌≡◌ {A = Option (ℕ × R)} None (row_at key_of_pair (key_at n) (listed_by key_at place with rows))
+missing_listed key_at rising place with other n rows is =
+    sym (row_at-listed key_at rising place with n rows ∙ ap (option_map (λ row. (key_at (place row), with row))) (none_mapped other (row_at place n rows) is))

@@ -1,5 +1,5 @@
 -- A table of groups: its rows with their keys, by what a row's key and its place have to do with each other.
-use Rattle.group_tree.proofs.Common.{◌≡◌, ◌≢◌, ◌∙◌, refl, sym, ap, subst, ℕ, ◌<◌, nat_le, true, List, [], ◌∷◌, map, Option, None, option_map, arith, nat_tests, AllByRecursion, keys_from, row_at, with_row_at, without_row, each-with_row, each-with_row_at, each-without_row, ordered-with_row, ordered-with_row_at, ordered-without_row, IsOrderedBy, key_of_pair, value_at, base_of, IsPut, IsPutAt, IsReplacedAt, Result, Ok, Err, Refusal, is_ok, listed_by}
+use Rattle.group_tree.proofs.Common.{◌≡◌, ◌≢◌, ◌∙◌, sym, ap, subst, ℕ, ◌<◌, List, Option, None, option_map, AllByRecursion, row_at, with_row_at, without_row, each-with_row, each-with_row_at, each-without_row, ordered-with_row, ordered-with_row_at, ordered-without_row, IsOrderedBy, key_of_pair, value_at, base_of, IsPut, IsPutAt, IsReplacedAt, Result, Ok, Err, Refusal, is_ok, listed_by}
 use Rattle.group_tree.proofs.PlacedLemmas.{no_place, put-listed, value_at-listed, with_row_at-listed, without_row-listed}
 
 -- a table: where a row is among those of its group, which key it has there, how it looks as a row of a key, and what it
@@ -60,15 +60,6 @@ module _ {R : Type 0} (table : Table R) where
                 ∙ ap (λ r. with_row_at key_of_pair (table.key_at base (table.place row)) (table.key_at base (table.place row), r) (table_rows base before)) home.back
                 ∙ ap (λ (k : ℕ). with_row_at key_of_pair k (k, row) (table_rows base before)) home.at;
           }
-
-  -- the rows that a group hands out, with their keys
-  pub handed_at : (base : ℕ) → ((row : R) → table.key (table.with base row) ≡ table.key_at base (table.place row)) → (rows : List R) → map (λ row. (table.key row, row)) (map (table.with base) (keys_from table.place 0 rows)) ≡ table_rows base rows
-  handed_at base same [] = refl
-  handed_at base same (row ∷ rows) =
-      let from : nat_le 0 (table.place row) ≡ true = grind (arith, nat_tests) in
-      rw from
-      (ap (λ (k : ℕ). (k, table.with base row) ∷ map (λ row. (table.key row, row)) (map (table.with base) (keys_from table.place 0 rows))) (same row)
-      ∙ ap (λ rest. (table.key_at base (table.place row), table.with base row) ∷ rest) (handed_at base same rows))
 
 -- the rows of a group stay in order, and each as it has to be
 module _ {R : Type 0} (place : R → ℕ) (Keeps : R → Type 0) where

@@ -1,7 +1,10 @@
 -- What the calls of a tree of groups say of its rows.
-use Rattle.group_tree.proofs.Common.{◌≡◌, ◌∙◌, refl, sym, ap, subst, ℕ, ◌+◌, ◌*◌, ◌<◌, ◌≤◌, ◌≢◌, List, [], ◌∷◌, ◌++◌, length, Option, Some, None, option_map, IsSome, is_some, arith, append-nil, AllByRecursion, nat_tests, filter-append, filter_all, filter_none, each-weaker, keys_below, keys_from, rows_beside, with_row_at_absent, without_row_absent, length-with_row_at, IsHeightOf, IsHeightOfGroups, length-append, IfErr, IfSome, row_at, with_row, with_row_at, without_row, each-with_row, each-with_row_at, each-without_row, ordered-with_row, ordered-with_row_at, ordered-without_row, from-weaker, length-with_row, with_row-front, with_row-skip, with_row_at-here, without_row-here, KeysBelow, KeysFrom, key_of_pair, value_at, AreGroups, base_of, rows_of, Result, Ok, Err, if◌then◌else◌, Bor, each-append, Back, Refusal, Exists, Memory, IsInserted}
+use Rattle.group_tree.proofs.Common.{◌≡◌, ◌∙◌, refl, sym, ap, subst, ℕ, ◌+◌, ◌<◌, ◌≤◌, ◌≢◌, List, [], ◌∷◌, ◌++◌, length, Option, Some, None, option_map, IsSome, is_some, arith, append-nil, AllByRecursion, nat_tests, filter-append, filter_all, filter_none, each-weaker, keys_below, keys_from, rows_beside, with_row_at_absent, without_row_absent, length-with_row_at, IsHeightOf, IsHeightOfGroups, length-append, IfErr, IfSome, row_at, with_row, with_row_at, without_row, each-with_row, each-with_row_at, each-without_row, ordered-with_row, ordered-with_row_at, ordered-without_row, from-weaker, length-with_row, with_row-front, with_row-skip, with_row_at-here, without_row-here, KeysBelow, KeysFrom, key_of_pair, value_at, AreGroups, HaveLaws, base_of, rows_of, Result, Ok, Err, if◌then◌else◌, Bor, each-append, Back, Refusal, Exists, Memory, IsInserted}
+use Rattle.row_groups.proofs.FilledLemmas.{none_mapped}
+use Rattle.tatp_rows.proofs.HalfLemmas.{below_none, from_all}
 use Rattle.group_tree.proofs.BaseLemmas.{base_base}
-use Rattle.group_tree.proofs.GroupsLemmas.{Around, HaveLaws, IsFilled, around, found_beside, group_at, put_beside, removed_beside, replaced_beside, rows_below, rows_from, rows_of-append}
+use Rattle.group_tree.proofs.PlaceLemmas.{below_span, from_base}
+use Rattle.group_tree.proofs.GroupsLemmas.{Around, IsFilled, around, few_rows, found_beside, group_at, put_beside, removed_beside, replaced_beside, rows_below, rows_from, rows_of-append}
 
 -- the answer of an insertion, with the row in place of its group
 abbrev pub IsHandedOn : {G R : Type 0} → Result (Unit {0}) (Back G) → R → Result (Unit {0}) (Back R) → Type 0
@@ -10,30 +13,20 @@ IsHandedOn (Err back) row given = given ≡ Err (record { why = back.why; item =
 
 -- no value at a key is no row at it
 pub no_pair : {V : Type 0} (key : ℕ) (rows : List (ℕ × V)) → None ≡ value_at key rows → row_at key_of_pair key rows ≡ None
-no_pair key rows e = none_of (row_at key_of_pair key rows) e
-  where
-    none_of : {V : Type 0} (found : Option (ℕ × V)) → None ≡ option_map (λ (p : ℕ × V). p.1) found → found ≡ None
-    none_of None e = refl
-    none_of (Some p) e = let wrong : ⊥ = cc in absurd wrong
+no_pair key rows e = none_mapped (λ p. p.1) (row_at key_of_pair key rows) e
 
 -- a list of no element
 emptied : {X : Type 0} (xs : List X) → length xs ≡ 0 → xs ≡ []
 emptied [] e = refl
 emptied (x ∷ xs) e = absurd (omega (arith, e))
 
--- the rows from a key on, behind others that are below it, and where all are; and none below it
+-- the rows from a key on, behind others that are below it
 pub front_gone : {R : Type 0} (key : ℕ) (a b : List (ℕ × R)) → KeysBelow key a → keys_from key_of_pair key (a ++ b) ≡ keys_from key_of_pair key b
 front_gone key a b below =
     filter-append _ a b
     ∙ ap (λ none. none ++ keys_from key_of_pair key b) (filter_none _ a (each-weaker (λ p less. grind (arith, nat_tests)) a below))
 
-pub all_kept : {R : Type 0} (key : ℕ) (rows : List (ℕ × R)) → KeysFrom key rows → keys_from key_of_pair key rows ≡ rows
-all_kept key rows from = filter_all _ rows (each-weaker (λ p least. grind (arith, nat_tests)) rows from)
-
-below_none : {R : Type 0} (key : ℕ) (rows : List (ℕ × R)) → KeysFrom key rows → keys_below key_of_pair key rows ≡ []
-below_none key rows from = filter_none _ rows (each-weaker (λ p least. grind (arith, nat_tests)) rows from)
-
-module _ {G R : Type 0} {listed : ℕ → G → List (ℕ × R)} {Holds : ℕ → G → Type 0} {span : ℕ} (laws : HaveLaws listed Holds span) {groups : List (ℕ × G)} (are : AreGroups listed Holds groups) (key : ℕ) {base : ℕ} (at : base ≡ base_of span key) where
+module _ {G R : Type 0} {listed : ℕ → G → List (ℕ × R)} {Holds : ℕ → G → Type 0} {span : ℕ} {key_in : ℕ → ℕ → ℕ} (laws : HaveLaws listed Holds span key_in) {groups : List (ℕ × G)} (are : AreGroups listed Holds groups) (key : ℕ) {base : ℕ} (at : base ≡ base_of span key) where
   -- the groups around the one that was found
   pub beside : (found : Option G) → found ≡ value_at base groups → Around listed Holds span laws (base_of span key) groups (group_at listed Holds span laws (base_of span key) found)
   beside found e =
@@ -64,8 +57,8 @@ module _ {G R : Type 0} {listed : ℕ → G → List (ℕ × R)} {Holds : ℕ �
       let back_from = rows_from listed Holds span laws (low + span) a.back a.back_each a.behind in
       ap (λ gs. rows_beside span key (rows_of listed gs)) a.list
       ∙ ap (rows_beside span key) (rows_of-append listed Holds span laws a.front a.back)
-      ∙ ap (keys_below key_of_pair (low + span)) (front_gone low (rows_of listed a.front) (rows_of listed a.back) front_below ∙ all_kept low (rows_of listed a.back) (from-weaker key_of_pair low (low + span) (rows_of listed a.back) (omega arith) back_from))
-      ∙ below_none (low + span) (rows_of listed a.back) back_from
+      ∙ ap (keys_below key_of_pair (low + span)) (front_gone low (rows_of listed a.front) (rows_of listed a.back) front_below ∙ from_all key_of_pair low (rows_of listed a.back) (from-weaker key_of_pair low (low + span) (rows_of listed a.back) (omega arith) back_from))
+      ∙ below_none key_of_pair (low + span) (rows_of listed a.back) back_from
 
   module _ (group : G) (found : Some group ≡ value_at base groups) where
     pub around_it : Around listed Holds span laws (base_of span key) groups ((base_of span key, group) ∷ [])
@@ -102,17 +95,16 @@ module _ {G R : Type 0} {listed : ℕ → G → List (ℕ × R)} {Holds : ℕ �
         let own = listed low group in
         let front = rows_of listed around_it.front in
         let back = rows_of listed around_it.back in
-        let rules = laws.rules low group its_rules in
         let front_below = rows_below listed Holds span laws low around_it.front (base_base span laws.positive key) around_it.front_each around_it.below in
         let back_from = rows_from listed Holds span laws (low + span) around_it.back around_it.back_each around_it.behind in
-        let both_from = each-append (λ q. low ≤ key_of_pair q) own back rules.from (from-weaker key_of_pair low (low + span) back (omega arith) back_from) in
+        let both_from = each-append (λ q. low ≤ key_of_pair q) own back (from_base laws low group its_rules) (from-weaker key_of_pair low (low + span) back (omega arith) back_from) in
         ap (λ gs. rows_beside span key (rows_of listed gs)) around_it.list
         ∙ ap (rows_beside span key) (rows_of-append listed Holds span laws around_it.front ((low, group) ∷ around_it.back))
-        ∙ ap (keys_below key_of_pair (low + span)) (front_gone low front (own ++ back) front_below ∙ all_kept low (own ++ back) both_from)
+        ∙ ap (keys_below key_of_pair (low + span)) (front_gone low front (own ++ back) front_below ∙ from_all key_of_pair low (own ++ back) both_from)
         ∙ filter-append _ own back
-        ∙ ap (λ none. keys_below key_of_pair (low + span) own ++ none) (below_none (low + span) back back_from)
+        ∙ ap (λ none. keys_below key_of_pair (low + span) own ++ none) (below_none key_of_pair (low + span) back back_from)
         ∙ append-nil (keys_below key_of_pair (low + span) own)
-        ∙ filter_all _ own (each-weaker {P = λ q. key_of_pair q < low + span} (λ q less. grind (arith, nat_tests)) own rules.below)
+        ∙ filter_all _ own (each-weaker {P = λ q. key_of_pair q < low + span} (λ q less. grind (arith, nat_tests)) own (below_span laws low group its_rules))
 
     with_it : (new : G) → with_row_at key_of_pair base (base, new) groups ≡ around_it.front ++ (((base_of span key, new) ∷ []) ++ around_it.back)
     with_it new =
@@ -233,7 +225,7 @@ module _ {G R : Type 0} {listed : ℕ → G → List (ℕ × R)} {Holds : ℕ �
     first_answer (Err back) after given h same = subst (IsInserted key row (rows_of listed groups) (rows_of listed after)) (sym same) (first_refused after back.why h.1 h.2)
 
 -- a group that was found has all rows of its span; without one there are none
-module _ {G R : Type 0} {listed : ℕ → G → List (ℕ × R)} {Holds : ℕ → G → Type 0} {span : ℕ} (laws : HaveLaws listed Holds span) {groups : List (ℕ × G)} (are : AreGroups listed Holds groups) (key : ℕ) {base : ℕ} (at : base ≡ base_of span key) where
+module _ {G R : Type 0} {listed : ℕ → G → List (ℕ × R)} {Holds : ℕ → G → Type 0} {span : ℕ} {key_in : ℕ → ℕ → ℕ} (laws : HaveLaws listed Holds span key_in) {groups : List (ℕ × G)} (are : AreGroups listed Holds groups) (key : ℕ) {base : ℕ} (at : base ≡ base_of span key) where
   pub group_found : (lent : Option (Bor G)) → option_map (λ r. r.now) lent ≡ value_at base groups → IfSome lent (λ group. listed (base_of span key) group.now ≡ rows_beside span key (rows_of listed groups))
   group_found None e = tt
   group_found (Some group) e = sym (some_beside laws are key at group.now e)
@@ -242,19 +234,15 @@ module _ {G R : Type 0} {listed : ℕ → G → List (ℕ × R)} {Holds : ℕ �
   group_missing lent e none = none_beside laws are key at (sym (ap (option_map (λ r. r.now)) none) ∙ e)
 
 -- each group has one to four rows
-module _ {G R : Type 0} {listed : ℕ → G → List (ℕ × R)} {Holds : ℕ → G → Type 0} {span : ℕ} (laws : HaveLaws listed Holds span) where
+module _ {G R : Type 0} {listed : ℕ → G → List (ℕ × R)} {Holds : ℕ → G → Type 0} {span : ℕ} {key_in : ℕ → ℕ → ℕ} (laws : HaveLaws listed Holds span key_in) where
   fewer_groups : (groups : List (ℕ × G)) → AllByRecursion (IsFilled listed Holds span laws) groups → length groups ≤ length (rows_of listed groups)
   fewer_groups [] each = omega arith
   fewer_groups (p ∷ groups) each = omega (arith, fewer_groups groups each.1, each.0.1, length-append (listed p.0 p.1) (rows_of listed groups))
 
-  few_rows : (groups : List (ℕ × G)) → AllByRecursion (IsFilled listed Holds span laws) groups → length (rows_of listed groups) ≤ 4 * length groups
-  few_rows [] each = omega arith
-  few_rows (p ∷ groups) each = omega (arith, few_rows groups each.1, (laws.rules p.0 p.1 each.0.0).few, length-append (listed p.0 p.1) (rows_of listed groups))
-
   pub height_of_rows : (groups : List (ℕ × G)) → AreGroups listed Holds groups → (height : ℕ) → IsHeightOf height (length groups) → IsHeightOfGroups height (length (rows_of listed groups))
   height_of_rows groups are height h =
       let low = fewer_groups groups are.each in
-      let high = few_rows groups are.each in
+      let high = few_rows listed Holds span laws groups (each-weaker {P = IsFilled listed Holds span laws} (λ p h. h.0) groups are.each) in
       record {
         low = λ some. omega (arith, h.low some, low);
         high = omega (arith, h.high, high);

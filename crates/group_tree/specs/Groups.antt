@@ -1,5 +1,5 @@
 -- Groups that lie in a tree, and the rows that they have together.
-use Rattle.std.specs.Prelude.{◌≡◌, ℕ, ◌+◌, ◌*◌, ◌/◌, ◌^◌, ◌<◌, ◌≤◌, Bool, true, false, List, [], ◌∷◌, ◌++◌, length, Option, Some, None, IsSome, refl, slice_index, slice_index_or}
+use Rattle.std.specs.Prelude.{◌≡◌, ℕ, suc, ◌+◌, ◌*◌, ◌/◌, ◌^◌, ◌<◌, ◌≤◌, Bool, true, false, List, [], ◌∷◌, ◌++◌, length, Option, Some, None, IsSome, refl, slice_index, slice_index_or}
 use Rattle.std.specs.List.{AllByRecursion}
 use Rattle.std.specs.Coded.{Coded, code_by, coded×, coded_ℕ, coded_list}
 use Rattle.tatp_rows.specs.Ordered.{IsOrderedBy, row_at, with_row, with_row_at}
@@ -24,14 +24,20 @@ base_of span key = key / span * span
 abbrev pub IsBase : ℕ → ℕ → Type 0
 IsBase span key = base_of span key ≡ key
 
--- the rows of a group that lies at a key: in order, at most four, and in the span from that key on
-pub record IsGroupAt {R : Type 0} (span base : ℕ) (rows : List (ℕ × R)) : Type 0 where
+-- the rows of a group that lies at a key: in order, each at the key of one of four places
+pub record IsGroupAt {R : Type 0} (span base : ℕ) (key_in : ℕ → ℕ) (rows : List (ℕ × R)) : Type 0 where
   pub at : IsBase span base
   pub ordered : IsOrderedBy key_of_pair rows
-  pub from : KeysFrom base rows
-  pub below : KeysBelow (base + span) rows
-  pub few : length rows ≤ 4
+  pub each : AllByRecursion (λ p. (place : ℕ) × (place < 4) × (p.0 ≡ key_in place)) rows
   pub small : base + span ≤ key_limit
+
+-- the laws of groups: the keys of places rise within the span of a group, and a group's rows lie in its places
+pub record HaveLaws {G R : Type 0} (listed : ℕ → G → List (ℕ × R)) (Holds : ℕ → G → Type 0) (span : ℕ) (key_in : ℕ → ℕ → ℕ) : Type 0 where
+  pub positive : 0 < span
+  pub rising : (base place : ℕ) → key_in base place < key_in base (suc place)
+  pub from : (base : ℕ) → base ≤ key_in base 0
+  pub below : (base : ℕ) → key_in base 3 < base + span
+  pub rules : (base : ℕ) (group : G) → Holds base group → IsGroupAt span base (key_in base) (listed base group)
 
 -- the rows of all groups, in order
 abbrev pub rows_of : {G R : Type 0} → (ℕ → G → List (ℕ × R)) → List (ℕ × G) → List (ℕ × R)

@@ -5,9 +5,9 @@ use Rattle.tatp_rows.specs.declared.ranges.TheConstants.{LAST_SUBSCRIBER}
 use Rattle.row_groups.specs.Groups.{AreAccesses, AreFacilities, AreForwardings, access_type, access_with, facility_type, facility_with, forwarding_start, forwarding_with}
 use Rattle.group_tree.specs.Groups.{IsBase}
 
--- the rows of a group with their keys, where a function tells the key from a row's place among its own
+-- the rows of a group with their keys, where a function tells the key from what numbers a row among its own
 abbrev pub listed_by : {R : Type 0} → (ℕ → ℕ) → (R → ℕ) → (R → R) → List R → List (ℕ × R)
-listed_by key_at place with rows = map (λ row. (key_at (place row), with row)) rows
+listed_by key_at number with rows = map (λ row. (key_at (number row), with row)) rows
 
 -- the subscriber of a key
 abbrev pub s_id_in : ℕ → ℕ
@@ -17,6 +17,10 @@ s_id_in key = key / 65536
 abbrev pub type_in : ℕ → ℕ
 type_in key = key / 256 % 256
 
+-- the start time of a key; no public clause cites it
+abbrev pub start_time_in : ℕ → ℕ
+start_time_in key = key % 256
+
 -- how far apart groups of accesses or facilities lie: those of each subscriber
 abbrev pub subscriber_span : ℕ
 subscriber_span = 65536
@@ -24,6 +28,14 @@ subscriber_span = 65536
 -- how far apart groups of forwardings lie: those of each facility
 abbrev pub facility_span : ℕ
 facility_span = 256
+
+-- the key in a place of a subscriber's group: types begin with 1
+abbrev pub typed_key_in : ℕ → ℕ → ℕ
+typed_key_in base place = base + 256 * (place + 1)
+
+-- the key in a place of a facility's group: start times are eight hours apart
+abbrev pub started_key_in : ℕ → ℕ → ℕ
+started_key_in base place = base + 8 * place
 
 -- the accesses of a group that lies at a key
 abbrev pub accesses_listed : ℕ → List AccessInfoRow → List (ℕ × AccessInfoRow)

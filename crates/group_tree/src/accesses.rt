@@ -1,44 +1,9 @@
 //! The accesses of a subscriber as a group.
-ghost use Rattle.std.specs.Prelude.{◌≡◌, ◌≤◌, length};
-ghost use Rattle.mr_node.specs.Folds.{WalksRows};
-ghost use Rattle.group_tree.specs.Tables.{HoldsAccesses, accesses_listed};
 
-use crate::group::{Group, Row, keyed, push_from};
-use crate::tree::GroupTree;
-use arrayvec::ArrayVec;
+use crate::group::{Group, Row};
+use crate::keys::{checked_s_id_in, s_id_in, start_time_in, type_in};
 use row_groups::Accesses;
-use tatp_rows::{Access, LAST_SUBSCRIBER};
-
-/// Returns the rows with their keys, in order, of a group that lies at a key. If that is no key of a group, it returns
-/// none.
-fn rows_at(group: &Accesses, base: u64) -> ArrayVec<(u64, Access), 4>
-    ensures rows { HoldsAccesses base group.now → result.items ≡ accesses_listed base group.now }
-    ensures few { length result.items ≤ 4 }
-{
-    let s_id = base / 65_536;
-    if s_id == 0 || s_id > u64::from(LAST_SUBSCRIBER) {
-        return ArrayVec::new();
-    }
-    let rows = group.rows_from(s_id as u32, 0);
-    keyed(rows.as_slice())
-}
-
-/// Hands each row of a group that lies at a key, in the order of keys, to a closure, together with what the closure
-/// writes to. If that is no key of a group, it hands over none.
-fn walk_places<A, F: Fn(&mut A, u64, &Access)>(group: &Accesses, base: u64, so_far: &mut A, f: &F)
-    requires { F.IsAlwaysCallable f.now }
-    ensures { HoldsAccesses base group.now → WalksRows (λ a k r b. F.post f.now a k r tt b) so_far.old (accesses_listed base group.now) so_far.new }
-{
-    let s_id = base / 65_536;
-    if s_id == 0 || s_id > u64::from(LAST_SUBSCRIBER) {
-        return;
-    }
-    for ai_type in 1..5_u8 {
-        if let Some(row) = group.get(s_id as u32, ai_type) {
-            f(so_far, base + 256 * u64::from(ai_type), &row);
-        }
-    }
-}
+use tatp_rows::Access;
 
 impl Row for Access {
     ghost use Rattle.tatp_rows.specs.Keys.{access_key};
@@ -51,11 +16,13 @@ impl Row for Access {
 }
 
 impl Group<Access> for Accesses {
-    ghost use Rattle.group_tree.specs.Tables.{HoldsAccesses, accesses_listed, subscriber_span};
+    ghost use Rattle.group_tree.specs.Tables.{HoldsAccesses, accesses_listed, subscriber_span, typed_key_in};
 
     ghost span = { subscriber_span };
 
     ghost listed = { accesses_listed };
+
+    ghost key_in = { typed_key_in };
 
     ghost Holds = { HoldsAccesses };
 
@@ -74,14 +41,16 @@ impl Group<Access> for Accesses {
     }
 
     fn find(&self, key: u64) -> Option<Access> {
-        if key % 256 != 0 {
+        if start_time_in(key) != 0 {
             return None;
         }
-        self.get((key / 65_536) as u32, (key / 256 % 256) as u8)
+        self.get(s_id_in(key), type_in(key))
     }
 
-    fn push_from(&self, base: u64, key: u64, page: &mut ArrayVec<(u64, Access), 132>) {
-        push_from(page, key, rows_at(self, base).as_slice());
+    fn row_in(&self, base: u64, place: u8) -> Option<(u64, Access)> {
+        let ai_type = place + 1;
+        let row = self.get(checked_s_id_in(base)?, ai_type)?;
+        Some((base + 256 * u64::from(ai_type), row))
     }
 
     fn insert(&mut self, row: &Access) -> bool {
@@ -97,29 +66,13 @@ impl Group<Access> for Accesses {
     }
 
     fn remove(&mut self, key: u64) -> Option<Access> {
-        if key % 256 != 0 {
+        if start_time_in(key) != 0 {
             return None;
         }
-        Accesses::remove(self, (key / 65_536) as u32, (key / 256 % 256) as u8)
+        Accesses::remove(self, s_id_in(key), type_in(key))
     }
 
-    ghost use Rattle.group_tree.specs.Rules.{span_positive, access_group_rules};
+    ghost use Rattle.group_tree.specs.Rules.{access_laws};
 
-    ghost positive = { span_positive };
-
-    ghost rules = { access_group_rules };
-}
-
-impl GroupTree<Access, Accesses> {
-    /// Hands each row, in the order of keys, to a closure, together with what the closure writes to.
-    pub fn walk<A, F: Fn(&mut A, u64, &Access)>(&self, so_far: &mut A, f: &F)
-        requires { F.IsAlwaysCallable f.now }
-        ensures { WalksRows (λ a k r b. F.post f.now a k r tt b) so_far.old self.now.rows so_far.new }
-    {
-        let walk_group = |so_far: &mut A, base: u64, group: &Accesses|
-            requires { F.IsAlwaysCallable f.now }
-            ensures { HoldsAccesses base group.now → WalksRows (λ a k r b. F.post f.entry.now a k r tt b) so_far.old (accesses_listed base group.now) so_far.new }
-        { walk_places(group, base, so_far, f) };
-        self.groups.walk(so_far, &walk_group);
-    }
+    ghost laws = { access_laws };
 }

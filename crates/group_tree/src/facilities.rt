@@ -1,54 +1,16 @@
 //! The facilities of a subscriber as a group.
-ghost use Rattle.std.specs.Prelude.{◌≡◌, ◌≤◌, length, is_some, IfSome};
+ghost use Rattle.std.specs.Prelude.{◌≡◌, is_some, IfSome};
 ghost use Rattle.tatp_rows.specs.Keys.{facility_key};
-ghost use Rattle.mr_node.specs.Folds.{WalksRows};
 ghost use Rattle.mr_node.specs.Revisions.{revised_at, spent_at};
 ghost use Rattle.mr_node.specs.Rows.{value_at};
-ghost use Rattle.group_tree.specs.Tables.{HoldsFacilities, facilities_listed};
 
 use crate::facility_change::FacilityChange;
-use crate::group::{Group, Row, keyed, push_from};
+use crate::group::{Group, Row};
+use crate::keys::{checked_s_id_in, s_id_in, start_time_in, type_in};
 use crate::tree::GroupTree;
-use arrayvec::ArrayVec;
 use mr_node::Revise;
 use row_groups::Facilities;
-use tatp_rows::{Facility, LAST_SUBSCRIBER};
-
-/// Returns the rows with their keys, in order, of a group that lies at a key. If that is no key of a group, it returns
-/// none.
-fn rows_at(group: &Facilities, base: u64) -> ArrayVec<(u64, Facility), 4>
-    ensures rows { HoldsFacilities base group.now → result.items ≡ facilities_listed base group.now }
-    ensures few { length result.items ≤ 4 }
-{
-    let s_id = base / 65_536;
-    if s_id == 0 || s_id > u64::from(LAST_SUBSCRIBER) {
-        return ArrayVec::new();
-    }
-    let rows = group.rows_from(s_id as u32, 0);
-    keyed(rows.as_slice())
-}
-
-/// Hands each row of a group that lies at a key, in the order of keys, to a closure, together with what the closure
-/// writes to. If that is no key of a group, it hands over none.
-fn walk_places<A, F: Fn(&mut A, u64, &Facility)>(
-    group: &Facilities,
-    base: u64,
-    so_far: &mut A,
-    f: &F,
-)
-    requires { F.IsAlwaysCallable f.now }
-    ensures { HoldsFacilities base group.now → WalksRows (λ a k r b. F.post f.now a k r tt b) so_far.old (facilities_listed base group.now) so_far.new }
-{
-    let s_id = base / 65_536;
-    if s_id == 0 || s_id > u64::from(LAST_SUBSCRIBER) {
-        return;
-    }
-    for sf_type in 1..5_u8 {
-        if let Some(row) = group.get(s_id as u32, sf_type) {
-            f(so_far, base + 256 * u64::from(sf_type), &row);
-        }
-    }
-}
+use tatp_rows::Facility;
 
 impl Row for Facility {
     ghost use Rattle.tatp_rows.specs.Keys.{facility_key};
@@ -61,11 +23,13 @@ impl Row for Facility {
 }
 
 impl Group<Facility> for Facilities {
-    ghost use Rattle.group_tree.specs.Tables.{HoldsFacilities, facilities_listed, subscriber_span};
+    ghost use Rattle.group_tree.specs.Tables.{HoldsFacilities, facilities_listed, subscriber_span, typed_key_in};
 
     ghost span = { subscriber_span };
 
     ghost listed = { facilities_listed };
+
+    ghost key_in = { typed_key_in };
 
     ghost Holds = { HoldsFacilities };
 
@@ -84,14 +48,16 @@ impl Group<Facility> for Facilities {
     }
 
     fn find(&self, key: u64) -> Option<Facility> {
-        if key % 256 != 0 {
+        if start_time_in(key) != 0 {
             return None;
         }
-        self.get((key / 65_536) as u32, (key / 256 % 256) as u8)
+        self.get(s_id_in(key), type_in(key))
     }
 
-    fn push_from(&self, base: u64, key: u64, page: &mut ArrayVec<(u64, Facility), 132>) {
-        push_from(page, key, rows_at(self, base).as_slice());
+    fn row_in(&self, base: u64, place: u8) -> Option<(u64, Facility)> {
+        let sf_type = place + 1;
+        let row = self.get(checked_s_id_in(base)?, sf_type)?;
+        Some((base + 256 * u64::from(sf_type), row))
     }
 
     fn insert(&mut self, row: &Facility) -> bool {
@@ -107,17 +73,15 @@ impl Group<Facility> for Facilities {
     }
 
     fn remove(&mut self, key: u64) -> Option<Facility> {
-        if key % 256 != 0 {
+        if start_time_in(key) != 0 {
             return None;
         }
-        Facilities::remove(self, (key / 65_536) as u32, (key / 256 % 256) as u8)
+        Facilities::remove(self, s_id_in(key), type_in(key))
     }
 
-    ghost use Rattle.group_tree.specs.Rules.{span_positive, facility_group_rules};
+    ghost use Rattle.group_tree.specs.Rules.{facility_laws};
 
-    ghost positive = { span_positive };
-
-    ghost rules = { facility_group_rules };
+    ghost laws = { facility_laws };
 }
 
 impl GroupTree<Facility, Facilities> {
@@ -150,17 +114,5 @@ impl GroupTree<Facility, Facilities> {
             }
             None => false,
         }
-    }
-
-    /// Hands each row, in the order of keys, to a closure, together with what the closure writes to.
-    pub fn walk<A, F: Fn(&mut A, u64, &Facility)>(&self, so_far: &mut A, f: &F)
-        requires { F.IsAlwaysCallable f.now }
-        ensures { WalksRows (λ a k r b. F.post f.now a k r tt b) so_far.old self.now.rows so_far.new }
-    {
-        let walk_group = |so_far: &mut A, base: u64, group: &Facilities|
-            requires { F.IsAlwaysCallable f.now }
-            ensures { HoldsFacilities base group.now → WalksRows (λ a k r b. F.post f.entry.now a k r tt b) so_far.old (facilities_listed base group.now) so_far.new }
-        { walk_places(group, base, so_far, f) };
-        self.groups.walk(so_far, &walk_group);
     }
 }

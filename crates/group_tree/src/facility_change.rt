@@ -2,19 +2,19 @@
 ghost use Rattle.std.specs.Prelude.{◌≡◌};
 ghost use Rattle.group_tree.specs.Revised.{facility_in, group_changed, change_spent, row_made};
 
+use crate::keys::{checked_s_id_in, start_time_in, type_in};
 use mr_node::Revise;
 use row_groups::Facilities;
-use tatp_rows::{Facility, LAST_SUBSCRIBER};
+use tatp_rows::Facility;
 
 /// Returns the facility at a key in the group of its subscriber, or `None` if there is none.
 fn facility_in(group: &Facilities, key: u64) -> Option<Facility>
     ensures { result ≡ facility_in key group.now }
 {
-    let s_id = key / 65_536;
-    if key % 256 != 0 || s_id == 0 || s_id > u64::from(LAST_SUBSCRIBER) {
+    if start_time_in(key) != 0 {
         return None;
     }
-    group.get(s_id as u32, (key / 256 % 256) as u8)
+    group.get(checked_s_id_in(key)?, type_in(key))
 }
 
 /// A change of the facility at a key, as a change of the group in which it lies. It keeps the row that it made.

@@ -1,52 +1,9 @@
 //! The forwardings of a facility as a group.
-ghost use Rattle.std.specs.Prelude.{◌≡◌, ◌≤◌, length};
-ghost use Rattle.mr_node.specs.Folds.{WalksRows};
-ghost use Rattle.group_tree.specs.Tables.{HoldsForwardings, forwardings_listed};
 
-use crate::group::{Group, Row, keyed, push_from};
-use crate::tree::GroupTree;
-use arrayvec::ArrayVec;
+use crate::group::{Group, Row};
+use crate::keys::{checked_s_id_in, s_id_in, start_time_in, type_in};
 use row_groups::Forwardings;
-use tatp_rows::{Forwarding, LAST_SUBSCRIBER, is_between};
-
-/// Returns the rows with their keys, in order, of a group that lies at a key. If that is no key of a group, it returns
-/// none.
-fn rows_at(group: &Forwardings, base: u64) -> ArrayVec<(u64, Forwarding), 4>
-    ensures rows { HoldsForwardings base group.now → result.items ≡ forwardings_listed base group.now }
-    ensures few { length result.items ≤ 4 }
-{
-    let s_id = base / 65_536;
-    let sf_type = (base / 256 % 256) as u8;
-    if s_id == 0 || s_id > u64::from(LAST_SUBSCRIBER) || !is_between(sf_type, 1, 4) {
-        return ArrayVec::new();
-    }
-    let rows = group.rows_from(s_id as u32, sf_type, 0);
-    keyed(rows.as_slice())
-}
-
-/// Hands each row of a group that lies at a key, in the order of keys, to a closure, together with what the closure
-/// writes to. If that is no key of a group, it hands over none.
-fn walk_places<A, F: Fn(&mut A, u64, &Forwarding)>(
-    group: &Forwardings,
-    base: u64,
-    so_far: &mut A,
-    f: &F,
-)
-    requires { F.IsAlwaysCallable f.now }
-    ensures { HoldsForwardings base group.now → WalksRows (λ a k r b. F.post f.now a k r tt b) so_far.old (forwardings_listed base group.now) so_far.new }
-{
-    let s_id = base / 65_536;
-    let sf_type = (base / 256 % 256) as u8;
-    if s_id == 0 || s_id > u64::from(LAST_SUBSCRIBER) || !is_between(sf_type, 1, 4) {
-        return;
-    }
-    for place in 0..3_u8 {
-        let start_time = 8 * place;
-        if let Some(row) = group.get(s_id as u32, sf_type, start_time) {
-            f(so_far, base + u64::from(start_time), &row);
-        }
-    }
-}
+use tatp_rows::{Forwarding, is_between};
 
 impl Row for Forwarding {
     ghost use Rattle.tatp_rows.specs.Keys.{forwarding_key};
@@ -59,11 +16,13 @@ impl Row for Forwarding {
 }
 
 impl Group<Forwarding> for Forwardings {
-    ghost use Rattle.group_tree.specs.Tables.{HoldsForwardings, facility_span, forwardings_listed};
+    ghost use Rattle.group_tree.specs.Tables.{HoldsForwardings, facility_span, forwardings_listed, started_key_in};
 
     ghost span = { facility_span };
 
     ghost listed = { forwardings_listed };
+
+    ghost key_in = { started_key_in };
 
     ghost Holds = { HoldsForwardings };
 
@@ -82,15 +41,18 @@ impl Group<Forwarding> for Forwardings {
     }
 
     fn find(&self, key: u64) -> Option<Forwarding> {
-        self.get(
-            (key / 65_536) as u32,
-            (key / 256 % 256) as u8,
-            (key % 256) as u8,
-        )
+        self.get(s_id_in(key), type_in(key), start_time_in(key))
     }
 
-    fn push_from(&self, base: u64, key: u64, page: &mut ArrayVec<(u64, Forwarding), 132>) {
-        push_from(page, key, rows_at(self, base).as_slice());
+    fn row_in(&self, base: u64, place: u8) -> Option<(u64, Forwarding)> {
+        let s_id = checked_s_id_in(base)?;
+        let sf_type = type_in(base);
+        if !is_between(sf_type, 1, 4) {
+            return None;
+        }
+        let start_time = 8 * place;
+        let row = self.get(s_id, sf_type, start_time)?;
+        Some((base + u64::from(start_time), row))
     }
 
     fn insert(&mut self, row: &Forwarding) -> bool {
@@ -106,31 +68,10 @@ impl Group<Forwarding> for Forwardings {
     }
 
     fn remove(&mut self, key: u64) -> Option<Forwarding> {
-        Forwardings::remove(
-            self,
-            (key / 65_536) as u32,
-            (key / 256 % 256) as u8,
-            (key % 256) as u8,
-        )
+        Forwardings::remove(self, s_id_in(key), type_in(key), start_time_in(key))
     }
 
-    ghost use Rattle.group_tree.specs.Rules.{facility_span_positive, forwarding_group_rules};
+    ghost use Rattle.group_tree.specs.Rules.{forwarding_laws};
 
-    ghost positive = { facility_span_positive };
-
-    ghost rules = { forwarding_group_rules };
-}
-
-impl GroupTree<Forwarding, Forwardings> {
-    /// Hands each row, in the order of keys, to a closure, together with what the closure writes to.
-    pub fn walk<A, F: Fn(&mut A, u64, &Forwarding)>(&self, so_far: &mut A, f: &F)
-        requires { F.IsAlwaysCallable f.now }
-        ensures { WalksRows (λ a k r b. F.post f.now a k r tt b) so_far.old self.now.rows so_far.new }
-    {
-        let walk_group = |so_far: &mut A, base: u64, group: &Forwardings|
-            requires { F.IsAlwaysCallable f.now }
-            ensures { HoldsForwardings base group.now → WalksRows (λ a k r b. F.post f.entry.now a k r tt b) so_far.old (forwardings_listed base group.now) so_far.new }
-        { walk_places(group, base, so_far, f) };
-        self.groups.walk(so_far, &walk_group);
-    }
+    ghost laws = { forwarding_laws };
 }

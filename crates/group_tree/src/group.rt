@@ -1,11 +1,8 @@
 //! What a tree asks of its groups.
-ghost use Rattle.std.specs.Prelude.{◌≡◌, ◌∷◌, [], ◌<◌, ◌≤◌, ◌+◌, ◌++◌, ℕ, List, length, map};
-ghost use Rattle.tatp_rows.specs.Ordered.{without_row};
-ghost use Rattle.tatp_rows.specs.Spans.{keys_from};
+ghost use Rattle.std.specs.Prelude.{◌≡◌, ◌∷◌, [], ◌<◌, ℕ, List, length};
+ghost use Rattle.tatp_rows.specs.Ordered.{row_at, without_row};
 ghost use Rattle.mr_node.specs.Rows.{key_limit, key_of_pair, value_at};
-ghost use Rattle.group_tree.specs.Groups.{IsGroupAt, IsPutAt, IsReplacedAt, base_of};
-
-use arrayvec::ArrayVec;
+ghost use Rattle.group_tree.specs.Groups.{HaveLaws, IsPutAt, IsReplacedAt, base_of};
 
 /// A row, which tells its key.
 pub trait Row: Copy + Default {
@@ -17,14 +14,16 @@ pub trait Row: Copy + Default {
         ensures small { result < key_limit };
 }
 
-/// Rows that lie together in one value of a tree. The keys of a group's rows lie in one span: from a multiple of
-/// `span`, which is the key of the group in its tree, up to the next one. In contracts, `listed` is the list of the
-/// rows with their keys, for a group that lies at a key, and `Holds` has the rules of such a group. No call takes
-/// memory.
+/// Rows that lie together in one value of a tree, each in one of four places. The keys of a group's rows lie in one
+/// span: from a multiple of `span`, which is the key of the group in its tree, up to the next one. In contracts,
+/// `listed` is the list of the rows with their keys, for a group that lies at a key, `key_in` is the key in one of its
+/// places, and `Holds` has the rules of such a group. No call takes memory.
 pub trait Group<R: Row>: Copy + Default {
     ghost span: { ℕ };
 
     ghost listed: { ℕ → Self → List (ℕ × R) };
+
+    ghost key_in: { ℕ → ℕ → ℕ };
 
     ghost Holds: { ℕ → Self → Type 0 };
 
@@ -46,10 +45,12 @@ pub trait Group<R: Row>: Copy + Default {
         requires { Holds (base_of span key) self.now }
         ensures { result ≡ value_at key (listed (base_of span key) self.now) };
 
-    /// Appends the rows from a key on, of a group that lies at a key, to a page with room for four.
-    fn push_from(&self, base: u64, key: u64, page: &mut ArrayVec<(u64, R), 132>)
-        requires { length page.old.items ≤ 128 }
-        ensures { Holds base self.now → page.new.items ≡ page.old.items ++ keys_from key_of_pair key (listed base self.now) };
+    /// Returns the row in one of the four places of a group that lies at a key, with the row's key, or `None` if there
+    /// is none. Places are counted from 0, and keys rise with them. If the group can't lie at that key, any row may be
+    /// returned.
+    fn row_in(&self, base: u64, place: u8) -> Option<(u64, R)>
+        requires { place < 4 }
+        ensures { Holds base self.now → result ≡ row_at key_of_pair (key_in base place) (listed base self.now) };
 
     /// Puts a row among the others. It returns false if there is one with its key, and then the group is as it was.
     fn insert(&mut self, row: &R) -> bool
@@ -71,32 +72,5 @@ pub trait Group<R: Row>: Copy + Default {
         ensures rows { listed (base_of span key) self.new ≡ without_row key_of_pair key (listed (base_of span key) self.old) }
         ensures rules { Holds (base_of span key) self.new };
 
-    ghost positive: { 0 < span };
-
-    ghost rules: { (base : ℕ) (group : Self) → Holds base group → IsGroupAt span base (listed base group) };
-}
-
-/// Returns rows with their keys, in the same order.
-pub(crate) fn keyed<R: Row>(rows: &[R]) -> ArrayVec<(u64, R), 4>
-    requires { length rows.now ≤ 4 }
-    ensures { result.items ≡ map (λ row. (R.row_key row, row)) rows.now }
-{
-    let mut pairs = ArrayVec::new();
-    for place in 0..rows.len() {
-        pairs.push((rows[place].key(), rows[place]));
-    }
-    pairs
-}
-
-/// Appends the rows whose keys are this one or higher to a page that has room for all rows.
-pub(crate) fn push_from<R: Row>(page: &mut ArrayVec<(u64, R), 132>, key: u64, rows: &[(u64, R)])
-    requires { length page.old.items + length rows.now ≤ 132 }
-    ensures { page.new.items ≡ page.old.items ++ keys_from key_of_pair key rows.now }
-{
-    for place in 0..rows.len() {
-        let pair = rows[place];
-        if key <= pair.0 {
-            page.push(pair);
-        }
-    }
+    ghost laws: { HaveLaws listed Holds span key_in };
 }

@@ -10,10 +10,12 @@ mod facilities;
 mod facility_change;
 mod forwardings;
 mod group;
+mod keys;
 mod pages;
 #[cfg(test)]
 mod tests;
 mod tree;
+mod walk;
 
 pub use group::{Group, Row};
 pub use tree::GroupTree;

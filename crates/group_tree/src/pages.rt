@@ -35,6 +35,26 @@ fn find_in<R: Row, G: Group<R>>(group: &Option<G>, key: u64) -> Option<R>
     }
 }
 
+/// Appends the rows of a group that lies at a key, from another key on, to a page that has room for four.
+fn push_from<R: Row, G: Group<R>>(
+    group: &G,
+    base: u64,
+    key: u64,
+    page: &mut ArrayVec<(u64, R), 132>,
+)
+    requires rules { G.Holds base group.now }
+    requires room { length page.old.items ≤ 128 }
+    ensures { page.new.items ≡ page.old.items ++ keys_from key_of_pair key (G.listed base group.now) }
+{
+    for place in 0..4_u8 {
+        if let Some(pair) = group.row_in(base, place) {
+            if key <= pair.0 {
+                page.push(pair);
+            }
+        }
+    }
+}
+
 /// Appends the rows of groups to a page that has room for four of each.
 fn push_groups<R: Row, G: Group<R>>(page: &mut ArrayVec<(u64, R), 132>, groups: &[(u64, G)])
     requires room { length page.old.items + 4 * length groups.now ≤ 132 }
@@ -43,7 +63,7 @@ fn push_groups<R: Row, G: Group<R>>(page: &mut ArrayVec<(u64, R), 132>, groups: 
 {
     for place in 0..groups.len() {
         let pair = &groups[place];
-        pair.1.push_from(pair.0, 0, page);
+        push_from(&pair.1, pair.0, 0, page);
     }
 }
 
@@ -63,7 +83,7 @@ fn start_page<R: Row, G: Group<R>>(
     let Some(group) = groups.get(base) else {
         return key;
     };
-    group.push_from(base, key, page);
+    push_from(group, base, key, page);
     key + 1
 }
 

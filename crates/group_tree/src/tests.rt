@@ -113,11 +113,12 @@ fn change(tree: &mut GroupTree<Access, Accesses>, marks: &mut Marks, turn: u64) 
     found == old && by_guess == old && done == ((old == 0) == ((draw >> 32) % 4 > 1))
 }
 
-/// The walk over all rows of a tree from a key on, page by page.
+/// The walk over all rows of a tree from a key on, page by page. A page has what is left of a leaf, and a leaf has at
+/// least 16 groups, so five pages are enough for 64 groups.
 fn paged(tree: &GroupTree<Access, Accesses>, from: u64) -> Walk {
     let mut walk = START;
     let mut next = from;
-    for _ in 0..300 {
+    for _ in 0..5 {
         let mut groups = ArrayVec::new();
         let mut page = ArrayVec::new();
         tree.page_from(next, &mut groups, &mut page);

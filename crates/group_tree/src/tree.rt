@@ -1,7 +1,7 @@
 //! The tree of groups.
 ghost use Rattle.std.specs.Prelude.{◌≡◌, ◌<◌, ◌≤◌, [], length, ok_or, None, IfErr, IfOk, IfSome, OnErr};
 ghost use Rattle.tatp_rows.specs.Ordered.{with_row_at, without_row};
-ghost use Rattle.mr_node.specs.Rows.{key_limit, key_of_pair, value_at};
+ghost use Rattle.mr_node.specs.Rows.{key_of_pair, value_at};
 ghost use Rattle.mr_subtree.specs.Trees.{IsInserted};
 ghost use Rattle.group_tree.specs.Groups.{IsHeightOfGroups, base_of, rows_beside};
 

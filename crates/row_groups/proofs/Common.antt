@@ -1,7 +1,7 @@
 -- The names of crates below and of this crate's specs that proofs cite, passed on from one place. Declares nothing.
 pub use Rattle.std.proofs.Common.{Bool, IsSome, List, Option, [], ap, arith, drop, false, get_or, length, length-set, map, refl, set, subst, suc, sym, take, true, zero, ℕ, ◌++◌, ◌*◌, ◌+◌, ◌-◌, ◌<◌, ◌∙◌, ◌∷◌, ◌≡◌, ◌≢◌, ◌≤◌}
 pub use Rattle.std.proofs.lemmas.Bool.Decides.{nat_tests}
-pub use Rattle.std.proofs.lemmas.List.{append-nil, get_or_past, get_or_read, map-append, take_all}
+pub use Rattle.std.proofs.lemmas.List.{get_or_past, get_or_read, map-append, take_all}
 pub use Rattle.std.proofs.lemmas.List.Elements.{filter-append}
 pub use Rattle.std.proofs.lemmas.List.Sums.{sum_by-cons}
 pub use Rattle.std.specs.List.{AllByRecursion, count_by, filter, list_all, sum_by}
@@ -13,12 +13,11 @@ pub use Rattle.tatp_rows.specs.Ordered.{IsOrderedBy, row_at, with_row, with_row_
 pub use Rattle.tatp_rows.specs.Rows.{AccessInfoRow, CallForwardingRow, is_start_time, SpecialFacilityRow, is_between}
 pub use Rattle.row_groups.specs.Places.{HasKeys, filled, filled-above, filled-behind, filled-found, filled-ordered, placed}
 pub use Rattle.tatp_rows.proofs.RowLemmas.{between_is, both_from, facility_ranges, forwarding_ranges}
-pub use Rattle.tatp_rows.specs.Spans.{keys_from}
 pub use Rattle.tatp_rows.specs.declared.refusal.Refusal.TheVariants.{Exists}
 pub use Rattle.tatp_rows.specs.declared.refusal.Refusal.{Refusal}
 pub use Rattle.row_groups.specs.Groups.{AreAccesses, AreFacilities, AreForwardings, IsPut, forwarding_start, forwarding_with, is_in_time, access_type, access_with, facility_type, facility_with}
-pub use Rattle.row_groups.specs.AccessPlaces.{access_back, access_data, access_keys, access_places, access_row}
-pub use Rattle.row_groups.specs.FacilityPlaces.{facility_back, facility_data, facility_keys, facility_places, facility_row, facility_row_back}
+pub use Rattle.row_groups.specs.AccessPlaces.{access_data, access_keys, access_row}
+pub use Rattle.row_groups.specs.FacilityPlaces.{facility_data, facility_keys, facility_row, facility_row_back}
 pub use Rattle.row_groups.specs.ForwardingPlaces.{IsWord, fields_in, forwarding_at, forwarding_back, forwarding_data, forwarding_keys, forwarding_places, forwarding_row, word_of}
 pub use Rattle.row_groups.specs.declared.forwarding_word.ForwardingData.{ForwardingData}
 pub use Rattle.row_groups.specs.declared.facilities.FacilityData.{FacilityData}

@@ -1,5 +1,5 @@
 -- Laws of the rows in places: what an edit of a place does to the rows, and how many there are.
-use Rattle.row_groups.proofs.Common.{Bool, ◌≡◌, ◌≢◌, refl, ap, subst, ℕ, zero, suc, ◌+◌, ◌<◌, ◌≤◌, List, [], ◌∷◌, ◌++◌, true, false, length, get_or, set, take, Option, Some, None, IsSome, arith, ◌==◌, nat_lt, nat_le, nat_tests, is_some, option_map, option_to_list, AllByRecursion, count_by, sum_by-cons, row_at, with_row, with_row_at, without_row, absent_below, each-weaker, with_row-front, without_row_absent, HasKeys, filled, filled-behind, filled-found, map, keys_from, filter, filter-append, map-append, append-nil}
+use Rattle.row_groups.proofs.Common.{Bool, ◌≡◌, ◌≢◌, refl, ap, subst, ℕ, zero, suc, ◌+◌, ◌<◌, ◌≤◌, List, [], ◌∷◌, ◌++◌, true, false, length, get_or, set, take, Option, Some, None, IsSome, arith, ◌==◌, nat_lt, nat_tests, is_some, option_map, option_to_list, AllByRecursion, count_by, sum_by-cons, row_at, with_row, with_row_at, without_row, absent_below, each-weaker, with_row-front, without_row_absent, HasKeys, filled, filled-behind, filled-found, map, filter, filter-append, map-append}
 
 module _ {D R : Type 0} (row : ℕ → D → R) (key : R → ℕ) (at : ℕ → ℕ) (keys : HasKeys row key at) where
   -- a row put into a free place
@@ -96,18 +96,6 @@ module _ {D R : Type 0} (row : ℕ → D → R) (key : R → ℕ) (at : ℕ → 
       taken None some = absurd cc
       taken (Some d) some = refl
 
-  -- the rows from a key on, of one place more
-  pub listed-more : {S : Type 0} (with : R → S) (from i n place : ℕ) (ps : List (Option D)) (items new : List S) → i + n ≡ place → n < length ps → from ≤ at place
-      → items ≡ map with (keys_from key from (filled row i (take n ps))) → new ≡ items ++ option_to_list (option_map with (row_at key (at place) (filled row i ps)))
-      → new ≡ map with (keys_from key from (filled row i (take (n + 1) ps)))
-  listed-more with from i n place ps items new e within high so_far step =
-      let one : n + 1 ≡ suc n = omega arith in
-      rw (one, step, so_far, filled-found row key at keys i n place ps e, filled-more row i n place ps e within, filter-append, map-append, last (get_or ps n None)) refl
-    where
-      last : (found : Option D) → map with (keys_from key from (option_to_list (option_map (row place) found))) ≡ option_to_list (option_map with (option_map (row place) found))
-      last None = refl
-      last (Some d) = let here = keys.keyed place d in let t : nat_le from (key (row place d)) ≡ true = grind (arith, nat_tests) in rw t refl
-
   -- the rows that a test chooses, of one place more
   pub chosen-more : {S : Type 0} (with : R → S) (test : R → Bool) (i n place : ℕ) (ps : List (Option D)) (items chosen new : List S) → i + n ≡ place → n < length ps
       → items ≡ map with (filter test (filled row i (take n ps))) → chosen ≡ map with (filter test (option_to_list (row_at key (at place) (filled row i ps)))) → new ≡ items ++ chosen
@@ -115,17 +103,6 @@ module _ {D R : Type 0} (row : ℕ → D → R) (key : R → ℕ) (at : ℕ → 
   chosen-more with test i n place ps items chosen new e within so_far more step =
       let one : n + 1 ≡ suc n = omega arith in
       rw (one, step, so_far, more, filled-found row key at keys i n place ps e, filled-more row i n place ps e within, filter-append, map-append) refl
-
-  -- a place below the key adds none
-  pub listed-same : {S : Type 0} (with : R → S) (from i n place : ℕ) (ps : List (Option D)) → i + n ≡ place → n < length ps → at place < from
-      → map with (keys_from key from (filled row i (take n ps))) ≡ map with (keys_from key from (filled row i (take (n + 1) ps)))
-  listed-same with from i n place ps e within low =
-      let one : n + 1 ≡ suc n = omega arith in
-      rw (one, filled-more row i n place ps e within, filter-append, last (get_or ps n None), append-nil) refl
-    where
-      last : (found : Option D) → keys_from key from (option_to_list (option_map (row place) found)) ≡ []
-      last None = refl
-      last (Some d) = let here = keys.keyed place d in let t : nat_le from (key (row place d)) ≡ false = grind (arith, nat_tests) in rw t refl
 
 -- what was read from a place
 pub read_place : {D : Type 0} (ps : List (Option D)) (n : ℕ) (found : Option D) → n < length ps → found ≡ get_or ps n found → found ≡ get_or ps n None

@@ -1,7 +1,7 @@
--- Laws of groups: what a look at a place, a put and a removal say of the rows, and the rows from a key on, place by
--- place.
-use Rattle.row_groups.proofs.Common.{◌≡◌, ◌∙◌, ◌≤◌, ◌<◌, ◌+◌, ◌++◌, ℕ, zero, suc, refl, sym, subst, List, Option, arith, length, get_or, get_or_past, set, map, take, take_all, option_map, option_to_list, true, false, Bool, IsSome, is_some, Some, None, Ok, Err, Exists, is_between, nat_le, nat_tests, by_test, both_from, absent_below, IsPut, filter, keys_from, row_at, with_row_at, HasKeys, filled, filled-above, filled-found}
-use Rattle.row_groups.proofs.FilledLemmas.{chosen-more, filled-put, filled-replaced, found-taken, free-found, listed-more, listed-same, taken-found}
+-- Laws of groups: what a look at a place, a put and a removal say of the rows, and the rows that a test chooses, place
+-- by place.
+use Rattle.row_groups.proofs.Common.{◌≡◌, ◌≤◌, ◌<◌, ◌+◌, ◌++◌, ℕ, zero, suc, refl, sym, subst, List, Option, arith, length, get_or, get_or_past, set, map, take, take_all, option_to_list, true, false, Bool, IsSome, is_some, Some, None, Ok, Err, Exists, is_between, nat_le, nat_tests, by_test, both_from, absent_below, IsPut, filter, row_at, with_row_at, HasKeys, filled, filled-above, filled-found}
+use Rattle.row_groups.proofs.FilledLemmas.{chosen-more, filled-put, filled-replaced, found-taken, free-found, taken-found}
 
 module _ {D R : Type 0} (row : ℕ → D → R) (key : R → ℕ) (at : ℕ → ℕ) (keys : HasKeys row key at) where
   -- a row is put into the free place of its key
@@ -22,34 +22,6 @@ module _ {D R : Type 0} (row : ℕ → D → R) (key : R → ℕ) (at : ℕ → 
   put_over i n place d r ps e is found =
       subst (λ x. filled row i (set ps n (Some d)) ≡ with_row_at key (at place) x (filled row i ps)) is
       (sym (filled-replaced row key at keys i n place d ps e (found-taken row key at keys i n place ps e found)))
-
-  module _ {S : Type 0} (with : R → S) (places : List R → List (Option D)) (from i : ℕ) (ps : List (Option D)) (same : places (filled row i ps) ≡ ps) where
-    -- the rows from a key on, of one place more
-    pub list_more : (n place : ℕ) (items new : List S) → i + n ≡ place → n < length ps → from ≤ at place
-        → items ≡ map with (keys_from key from (filled row i (take n (places (filled row i ps)))))
-        → new ≡ items ++ option_to_list (option_map with (row_at key (at place) (filled row i ps)))
-        → new ≡ map with (keys_from key from (filled row i (take (n + 1) (places (filled row i ps)))))
-    list_more n place items new e within high so_far step =
-        subst (λ qs. new ≡ map with (keys_from key from (filled row i (take (n + 1) qs)))) (sym same)
-        (listed-more row key at keys with from i n place ps items new e within high
-        (subst (λ qs. items ≡ map with (keys_from key from (filled row i (take n qs)))) same so_far) step)
-
-    pub list_same : (n place : ℕ) (items : List S) → i + n ≡ place → n < length ps → at place < from
-        → items ≡ map with (keys_from key from (filled row i (take n (places (filled row i ps)))))
-        → items ≡ map with (keys_from key from (filled row i (take (n + 1) (places (filled row i ps)))))
-    list_same n place items e within low so_far =
-        subst (λ qs. items ≡ map with (keys_from key from (filled row i (take (n + 1) qs)))) (sym same)
-        (subst (λ qs. items ≡ map with (keys_from key from (filled row i (take n qs)))) same so_far
-        ∙ listed-same row key at keys with from i n place ps e within low)
-
-    -- and of all places
-    pub list_whole : (n : ℕ) (items : List S) → length ps ≤ n
-        → items ≡ map with (keys_from key from (filled row i (take n (places (filled row i ps)))))
-        → items ≡ map with (keys_from key from (filled row i ps))
-    list_whole n items past so_far =
-        let all = take_all n ps past in
-        subst (λ qs. items ≡ map with (keys_from key from (filled row i qs))) all
-        (subst (λ qs. items ≡ map with (keys_from key from (filled row i (take n qs)))) same so_far)
 
   module _ {S : Type 0} (with : R → S) (places : List R → List (Option D)) (test : R → Bool) (i : ℕ) (ps : List (Option D)) (same : places (filled row i ps) ≡ ps) where
     -- the rows that a test chooses, of one place more

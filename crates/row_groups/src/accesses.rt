@@ -1,14 +1,12 @@
 //! The accesses of a subscriber.
-ghost use Rattle.std.specs.Prelude.{◌≡◌, ◌∷◌, [], ◌<◌, ◌+◌, ◌≤◌, length, map, option_map, IfSome, IsTrue};
+ghost use Rattle.std.specs.Prelude.{◌≡◌, ◌∷◌, [], ◌<◌, ◌+◌, ◌≤◌, length, option_map, IfSome, IsTrue};
 ghost use Rattle.tatp_rows.specs.Ordered.{row_at, with_row_at, without_row};
 ghost use Rattle.tatp_rows.specs.Rows.{is_between};
-ghost use Rattle.tatp_rows.specs.Spans.{keys_from};
 ghost use Rattle.tatp_rows.specs.declared.ranges.TheConstants.{LAST_SUBSCRIBER};
 ghost use Rattle.row_groups.specs.Groups.{AreAccesses, IsPut, access_type, access_with};
 ghost use Rattle.row_groups.specs.AccessPlaces.{access_data, access_row};
 
-use crate::places::{count_taken, push_some};
-use arrayvec::ArrayVec;
+use crate::places::count_taken;
 use std::marker::Model;
 use tatp_rows::{Access, Letters, Refusal, is_between};
 
@@ -139,22 +137,6 @@ impl Accesses {
     {
         let data = self.data_at(ai_type)?;
         Some(data.row(s_id, ai_type))
-    }
-
-    /// Returns the rows from a type on, in order, as rows of the subscriber `s_id`, which is in 1..=16,777,216.
-    pub fn rows_from(&self, s_id: u32, ai_type: u8) -> ArrayVec<Access, 4>
-        requires { IsTrue (is_between 1 LAST_SUBSCRIBER s_id) }
-        ensures { result.items ≡ map (access_with s_id) (keys_from access_type ai_type self.now) }
-    {
-        // Opens the group for the prover.
-        let _ = &self.places;
-        let mut rows = ArrayVec::new();
-        for place in 0..4_u8 {
-            if ai_type <= place + 1 {
-                push_some(&mut rows, self.get(s_id, place + 1));
-            }
-        }
-        rows
     }
 
     /// Puts a row among the others. It returns `Exists` if there is one of its type, and then the group is as it was.

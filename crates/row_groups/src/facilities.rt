@@ -1,14 +1,12 @@
 //! The facilities of a subscriber.
-ghost use Rattle.std.specs.Prelude.{◌≡◌, ◌∷◌, [], ◌<◌, ◌+◌, ◌≤◌, length, map, option_map, IfSome, IsTrue};
+ghost use Rattle.std.specs.Prelude.{◌≡◌, ◌∷◌, [], ◌<◌, ◌+◌, ◌≤◌, length, option_map, IfSome, IsTrue};
 ghost use Rattle.tatp_rows.specs.Ordered.{row_at, with_row_at, without_row};
 ghost use Rattle.tatp_rows.specs.Rows.{is_between};
-ghost use Rattle.tatp_rows.specs.Spans.{keys_from};
 ghost use Rattle.tatp_rows.specs.declared.ranges.TheConstants.{LAST_SUBSCRIBER};
 ghost use Rattle.row_groups.specs.Groups.{AreFacilities, IsPut, facility_type, facility_with};
 ghost use Rattle.row_groups.specs.FacilityPlaces.{facility_data, facility_row};
 
-use crate::places::{count_taken, push_some};
-use arrayvec::ArrayVec;
+use crate::places::count_taken;
 use std::marker::Model;
 use tatp_rows::{Facility, Letters, Refusal, is_between};
 
@@ -141,22 +139,6 @@ impl Facilities {
     {
         let data = self.data_at(sf_type)?;
         Some(data.row(s_id, sf_type))
-    }
-
-    /// Returns the rows from a type on, in order, as rows of the subscriber `s_id`, which is in 1..=16,777,216.
-    pub fn rows_from(&self, s_id: u32, sf_type: u8) -> ArrayVec<Facility, 4>
-        requires { IsTrue (is_between 1 LAST_SUBSCRIBER s_id) }
-        ensures { result.items ≡ map (facility_with s_id) (keys_from facility_type sf_type self.now) }
-    {
-        // Opens the group for the prover.
-        let _ = &self.places;
-        let mut rows = ArrayVec::new();
-        for place in 0..4_u8 {
-            if sf_type <= place + 1 {
-                push_some(&mut rows, self.get(s_id, place + 1));
-            }
-        }
-        rows
     }
 
     /// Puts a row among the others. It returns `Exists` if there is one of its type, and then the group is as it was.

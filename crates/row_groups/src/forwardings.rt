@@ -1,16 +1,15 @@
 //! The forwardings of a facility.
-ghost use Rattle.std.specs.Prelude.{◌≡◌, ◌∷◌, [], ◌<◌, ◌*◌, ◌≤◌, length, map, option_map, IfSome, IsTrue};
+ghost use Rattle.std.specs.Prelude.{◌≡◌, ◌∷◌, [], ◌<◌, ◌+◌, ◌*◌, ◌≤◌, ◌++◌, length, map, option_map, IfSome, IsTrue};
 ghost use Rattle.std.specs.List.{filter};
 ghost use Rattle.std.specs.Option.{option_to_list};
+ghost use Rattle.arrayvec.specs.ArrayVec.{array_vec_len};
 ghost use Rattle.tatp_rows.specs.Ordered.{row_at, with_row_at, without_row};
 ghost use Rattle.tatp_rows.specs.Rows.{is_between, is_start_time};
-ghost use Rattle.tatp_rows.specs.Spans.{keys_from};
 ghost use Rattle.tatp_rows.specs.declared.ranges.TheConstants.{LAST_SUBSCRIBER};
 ghost use Rattle.row_groups.specs.Groups.{AreForwardings, IsPut, forwarding_start, forwarding_with, is_in_time};
 ghost use Rattle.row_groups.specs.ForwardingPlaces.{forwarding_at};
 
 use crate::forwarding_word::{ForwardingData, ForwardingWord, count_taken};
-use crate::places::push_some;
 use arrayvec::ArrayVec;
 use std::marker::Model;
 use tatp_rows::{Forwarding, Number, Refusal, is_start_time};
@@ -70,6 +69,17 @@ fn place_of(row: &Forwarding) -> usize
     place_at(row.start_time())
 }
 
+/// Appends a number, if there is one.
+fn push_number(numbers: &mut ArrayVec<Number, 3>, found: Option<Number>)
+    requires { array_vec_len numbers.old < 3 }
+    ensures items { numbers.new.items ≡ numbers.old.items ++ option_to_list found }
+    ensures few { array_vec_len numbers.new ≤ array_vec_len numbers.old + 1 }
+{
+    if let Some(number) = found {
+        numbers.push(number);
+    }
+}
+
 impl Forwardings {
     /// Makes the group that has one row.
     pub fn of(row: &Forwarding) -> Self
@@ -112,24 +122,6 @@ impl Forwardings {
         Some(fields.row(s_id, sf_type, start_time))
     }
 
-    /// Returns the rows from a start time on, in order, as rows of the facility `sf_type` of the subscriber `s_id`,
-    /// whose ranges are those of `get`.
-    pub fn rows_from(&self, s_id: u32, sf_type: u8, start_time: u8) -> ArrayVec<Forwarding, 3>
-        requires s_id { IsTrue (is_between 1 LAST_SUBSCRIBER s_id) }
-        requires sf_type { IsTrue (is_between 1 4 sf_type) }
-        ensures { result.items ≡ map (forwarding_with s_id sf_type) (keys_from forwarding_start start_time self.now) }
-    {
-        // Opens the group for the prover.
-        let _ = &self.words;
-        let mut rows = ArrayVec::new();
-        for place in 0..3_u8 {
-            if start_time <= 8 * place {
-                push_some(&mut rows, self.get(s_id, sf_type, 8 * place));
-            }
-        }
-        rows
-    }
-
     /// Returns the number of the row in a place, if it starts by one hour and ends after another.
     fn number_at(&self, place: u8, start_time: u8, end_time: u8) -> Option<Number>
         requires { place < 3 }
@@ -150,7 +142,7 @@ impl Forwardings {
         let _ = &self.words;
         let mut numbers = ArrayVec::new();
         for place in 0..3_u8 {
-            push_some(&mut numbers, self.number_at(place, start_time, end_time));
+            push_number(&mut numbers, self.number_at(place, start_time, end_time));
         }
         numbers
     }

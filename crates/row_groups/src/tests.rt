@@ -1,5 +1,5 @@
 //! What no clause says: that each call can succeed. Groups with every pattern of places, put in by several orders, are
-//! compared with plain lists of rows in the order of their keys.
+//! compared with plain rows.
 ghost use Rattle.std.specs.Prelude.{IsTrue};
 ghost use Rattle.tatp_rows.specs.Rows.{is_between};
 
@@ -65,36 +65,34 @@ fn forwarding(sf_type: u8, start_time: u8, marked: bool) -> Result<Forwarding, R
     )
 }
 
-/// The rows of the types in a pattern, from a type on, of which some are marked.
-fn plain_access(pattern: u8, marked: u8, from: u8) -> Result<ArrayVec<Access, 4>, Refusal> {
-    let mut rows = ArrayVec::new();
-    for (ai_type, bit) in ORDERS[0] {
-        if pattern & bit != 0 && from <= ai_type {
-            let _ = rows.try_push(access(ai_type, marked & bit != 0)?);
+/// The row of a type, if the pattern has it, marked or not.
+fn plain_access(pattern: u8, marked: u8, ai_type: u8) -> Result<Option<Access>, Refusal> {
+    for (kind, bit) in ORDERS[0] {
+        if kind == ai_type && pattern & bit != 0 {
+            return Ok(Some(access(ai_type, marked & bit != 0)?));
         }
     }
-    Ok(rows)
+    Ok(None)
 }
 
-fn plain_facilities(pattern: u8, marked: u8, from: u8) -> Result<ArrayVec<Facility, 4>, Refusal> {
-    let mut rows = ArrayVec::new();
-    for (sf_type, bit) in ORDERS[0] {
-        if pattern & bit != 0 && from <= sf_type {
-            let _ = rows.try_push(facility(sf_type, marked & bit != 0)?);
+fn plain_facility(pattern: u8, marked: u8, sf_type: u8) -> Result<Option<Facility>, Refusal> {
+    for (kind, bit) in ORDERS[0] {
+        if kind == sf_type && pattern & bit != 0 {
+            return Ok(Some(facility(sf_type, marked & bit != 0)?));
         }
     }
-    Ok(rows)
+    Ok(None)
 }
 
+/// The rows of the start times in a pattern, of which some are marked.
 fn plain_forwardings(
     sf_type: u8,
     pattern: u8,
     marked: u8,
-    from: u8,
 ) -> Result<ArrayVec<Forwarding, 3>, Refusal> {
     let mut rows = ArrayVec::new();
     for (start_time, bit) in HOURS[0] {
-        if pattern & bit != 0 && from <= start_time {
+        if pattern & bit != 0 {
             let _ = rows.try_push(forwarding(sf_type, start_time, marked & bit != 0)?);
         }
     }
@@ -103,16 +101,9 @@ fn plain_forwardings(
 
 /// Whether a group has the rows of a pattern, by each of the calls that read.
 fn has_access(group: &Accesses, pattern: u8, marked: u8) -> Result<bool, Refusal> {
-    let mut same = group.len() == plain_access(pattern, marked, 0)?.len();
-    for from in 0..7_u8 {
-        let rows = plain_access(pattern, marked, from)?;
-        same &= group.rows_from(S_ID, from).as_slice() == rows.as_slice();
-        let found = rows
-            .as_slice()
-            .first()
-            .copied()
-            .filter(|row| row.ai_type() == from);
-        same &= group.get(S_ID, from) == found;
+    let mut same = group.len() == pattern.count_ones() as usize;
+    for ai_type in 0..7_u8 {
+        same &= group.get(S_ID, ai_type) == plain_access(pattern, marked, ai_type)?;
     }
     Ok(same)
 }
@@ -160,16 +151,9 @@ fn patterns_of_access(rt: HostRuntime) -> Result<(), Fail> {
 
 /// Whether a group has the rows of a pattern, by each of the calls that read.
 fn has_facilities(group: &Facilities, pattern: u8, marked: u8) -> Result<bool, Refusal> {
-    let mut same = group.len() == plain_facilities(pattern, marked, 0)?.len();
-    for from in 0..7_u8 {
-        let rows = plain_facilities(pattern, marked, from)?;
-        same &= group.rows_from(S_ID, from).as_slice() == rows.as_slice();
-        let found = rows
-            .as_slice()
-            .first()
-            .copied()
-            .filter(|row| row.sf_type() == from);
-        same &= group.get(S_ID, from) == found;
+    let mut same = group.len() == pattern.count_ones() as usize;
+    for sf_type in 0..7_u8 {
+        same &= group.get(S_ID, sf_type) == plain_facility(pattern, marked, sf_type)?;
     }
     Ok(same)
 }
@@ -239,16 +223,14 @@ fn has_forwardings(
 ) -> Result<bool, Refusal>
     requires { IsTrue (is_between 1 4 sf_type) }
 {
-    let all = plain_forwardings(sf_type, pattern, marked, 0)?;
+    let all = plain_forwardings(sf_type, pattern, marked)?;
     let mut same = group.len() == all.len();
     for start_time in 0..26_u8 {
-        let rows = plain_forwardings(sf_type, pattern, marked, start_time)?;
-        same &= group.rows_from(S_ID, sf_type, start_time).as_slice() == rows.as_slice();
-        let found = rows
+        let found = all
             .as_slice()
-            .first()
+            .iter()
             .copied()
-            .filter(|row| row.start_time() == start_time);
+            .find(|row| row.start_time() == start_time);
         same &= group.get(S_ID, sf_type, start_time) == found;
         for end_time in 0..26_u8 {
             let numbers = plain_numbers(&all, start_time, end_time);
