@@ -1,7 +1,7 @@
 //! The events on rows, as one call each. A read of a Subscriber row lends the row, other reads return theirs by value,
-//! and a change goes straight down to its row, without making an event, an action or a reply of it. Each call refuses a field that is out of its range with `Field` before
-//! it asks for a row, and returns `Moving` if the subscriber is in a loose piece. Each is right regardless of what jobs
-//! have done to the lent holdings.
+//! and a change goes straight down to its row, without making an event, an action or a reply of it. Each call refuses a
+//! field that is out of its range with `Field` before it asks for a row, and returns `Moving` if the subscriber is in a
+//! loose piece. Each is right regardless of what jobs have done to the lent holdings.
 ghost use Rattle.std.specs.Prelude.{◌≡◌, ◌+◌, ℕ, Some, IfOk, IfErr, MatchResult, Bool, Option};
 ghost use Rattle.tatp_rows.specs.declared.ranges.TheConstants.{LAST_SUBSCRIBER};
 ghost use Rattle.hlr_core.specs.Edits.{IsAsked, IsRowAction, action_asked};
