@@ -114,7 +114,7 @@ def seen_through(folder, names):
     return seen
 
 
-BLOCK = re.compile(r"(?:unsafe )?(impl|pub trait|pub struct|pub enum)\b(?:<[^>]*>)?\s*(?:([\w:]+)(?:<.*>)?\s+for\s+)?(\w+)")
+BLOCK = re.compile(r"(?:unsafe )?(impl|pub trait|pub struct|pub enum)\b(?:<(?:[^<>]|<[^<>]*>)*>)?\s*(?:([\w:]+)(?:<.*>)?\s+for\s+)?(\w+)")
 CALL = re.compile(r"\s*(?:pub(?:\(\w+\))? )?(?:extern \"C\" )?(?:const )?(?:unsafe )?(?:extern \"C\" )?fn (\w+)")
 
 
