@@ -1,10 +1,10 @@
 -- What becomes of a tree of facilities when one is changed where it lies in its group.
-use Rattle.group_tree.proofs.Common.{◌≡◌, ◌∙◌, refl, sym, ap, subst, ℕ, ◌/◌, ◌%◌, ◌==◌, true, List, [], ◌∷◌, Option, Some, None, IfSome, option_map, arith, nat_tests, by_test, unwrap_or, with_row_at, key_of_pair, value_at, revised_at, revised_none, revised_some, spent_at, AreGroups, Grouped, base_of, rows_of, is_between, LAST_SUBSCRIBER, SpecialFacilityRow, facility_in_range, facility_key, facility_type, facility_with, HoldsFacilities, facilities_listed, subscriber_span, facility_in, group_changed, change_spent, row_made}
+use Rattle.group_tree.proofs.Common.{◌≡◌, ◌∙◌, refl, sym, ap, subst, ℕ, ◌==◌, true, List, [], ◌∷◌, Option, Some, None, IfSome, option_map, arith, nat_tests, by_test, unwrap_or, with_row_at, key_of_pair, value_at, revised_at, revised_none, revised_some, spent_at, AreGroups, Grouped, base_of, rows_of, is_between, LAST_SUBSCRIBER, SpecialFacilityRow, facility_in_range, facility_key, facility_type, facility_with, HoldsFacilities, facilities_listed, subscriber_span, s_id_in, start_time_in, facility_in, group_changed, change_spent, row_made}
 use Rattle.group_tree.specs.declared.facility_change.FacilityChange.{FacilityChange}
 use Rattle.group_tree.specs.Rules.{facility_laws}
-use Rattle.group_tree.proofs.FacilityLemmas.{facility_found, facility_missing, facility_replaced, holds_replaced}
 use Rattle.group_tree.proofs.TreeLemmas.{its_rules, its_value, none_there, replaced_are, replaced_there}
-use Rattle.group_tree.proofs.TypeLemmas.{s_id_of_base}
+use Rattle.group_tree.proofs.TypedLemmas.{facilities, holds_replaced, s_id_of_base, typed_found, typed_missing, typed_replaced}
+use Rattle.tatp_rows.proofs.RowLemmas as ranges
 
 -- what changes a facility, after its call
 abbrev pub change_after : {E : Type 0} → (E → SpecialFacilityRow → E) → (E → SpecialFacilityRow → SpecialFacilityRow) → FacilityChange E → List SpecialFacilityRow → FacilityChange E
@@ -28,13 +28,13 @@ same_put key v (p ∷ rows) e =
 module _ (groups : List (ℕ × List SpecialFacilityRow)) (are : AreGroups facilities_listed HoldsFacilities groups) (key : ℕ) where
   -- the facility is where its group has it
   in_group : (group : List SpecialFacilityRow) → Some group ≡ value_at (base_of subscriber_span key) groups → facility_in key group ≡ value_at key (rows_of facilities_listed groups)
-  in_group group there = its_value facility_laws are key refl group there (facility_in key group) (by_test (key % 256 == 0)
+  in_group group there = its_value facility_laws are key refl group there (facility_in key group) (by_test (start_time_in key == 0)
       (λ t.
-      let typed : key % 256 ≡ 0 = grind (arith, nat_tests) in
+      let typed : start_time_in key ≡ 0 = grind (arith, nat_tests) in
       let holds = its_rules facility_laws are key refl group there in
-      let in_range : is_between 1 LAST_SUBSCRIBER (key / 65536) ≡ true = subst (λ (s_id : ℕ). is_between 1 LAST_SUBSCRIBER s_id ≡ true) (s_id_of_base key) holds.s_id in
-      rw (t, in_range) (facility_found key group typed))
-      (λ t. rw t (sym (ap (option_map (λ p. p.1)) (facility_missing key group (λ e. let wrong : (key % 256 == 0) ≡ true = grind (arith, nat_tests) in cc))))))
+      let in_range : is_between 1 LAST_SUBSCRIBER (s_id_in key) ≡ true = subst (λ (s_id : ℕ). is_between 1 LAST_SUBSCRIBER s_id ≡ true) (s_id_of_base key) holds.s_id in
+      rw (t, in_range) (typed_found facilities key group typed))
+      (λ t. rw t (sym (ap (option_map (λ p. p.1)) (typed_missing facilities key group (λ e. let wrong : (start_time_in key == 0) ≡ true = grind (arith, nat_tests) in cc))))))
 
   module _ (change : SpecialFacilityRow → SpecialFacilityRow) (keeps : IfSome (value_at key (rows_of facilities_listed groups)) (λ row. facility_key (change row) ≡ key)) (after : List (ℕ × List SpecialFacilityRow)) {base : ℕ} (at : base ≡ base_of subscriber_span key)
       (given : after ≡ revised_at base (λ group. group_changed change (facility_in key group) group) groups) where
@@ -61,6 +61,9 @@ module _ (groups : List (ℕ × List SpecialFacilityRow)) (are : AreGroups facil
 
     -- a facility is there, and is changed to one in range
     module _ (old : SpecialFacilityRow) (there : value_at key (rows_of facilities_listed groups) ≡ Some old) (in_range : facility_in_range (change old) ≡ true) where
+      kind : ranges.IsKind (facility_type (change old))
+      kind = ranges.facility_type (change old) in_range
+
       kept : facility_key (change old) ≡ key
       kept = subst (λ o. IfSome o (λ row. facility_key (change row) ≡ key)) there keeps
 
@@ -82,7 +85,7 @@ module _ (groups : List (ℕ × List SpecialFacilityRow)) (are : AreGroups facil
       listed_is : facilities_listed (base_of subscriber_span key) changed ≡ with_row_at key_of_pair key (key, change old) (facilities_listed (base_of subscriber_span key) group)
       listed_is =
           subst (λ (k : ℕ). facilities_listed (base_of subscriber_span k) changed ≡ with_row_at key_of_pair k (k, change old) (facilities_listed (base_of subscriber_span k) group)) kept
-          (facility_replaced (change old) in_range group changed _ refl refl).rows
+          (typed_replaced facilities (change old) kind group changed _ refl refl).rows
 
       after_is : after ≡ with_row_at key_of_pair (base_of subscriber_span key) (base_of subscriber_span key, changed) groups
       after_is =
@@ -91,7 +94,7 @@ module _ (groups : List (ℕ × List SpecialFacilityRow)) (are : AreGroups facil
 
       pub changed_are : AreGroups facilities_listed HoldsFacilities after
       changed_are =
-          rw after_is (replaced_are facility_laws are key refl group (sym group_is) changed (change old) listed_is (holds_replaced (change old) in_range (base_of subscriber_span key) group changed (its_rules facility_laws are key refl group (sym group_is)) refl))
+          rw after_is (replaced_are facility_laws are key refl group (sym group_is) changed (change old) listed_is (holds_replaced facilities (change old) kind (base_of subscriber_span key) group changed (its_rules facility_laws are key refl group (sym group_is)) refl))
 
       pub changed_rows : rows_of facilities_listed after ≡ revised_at key change (rows_of facilities_listed groups)
       changed_rows =

@@ -1,13 +1,9 @@
 -- What an edit of one group does to the rows of all groups.
-use Rattle.group_tree.proofs.Common.{◌≡◌, ◌∙◌, refl, sym, ap, subst, ℕ, ◌+◌, ◌*◌, ◌<◌, ◌≤◌, ◌==◌, nat_lt, List, [], ◌∷◌, ◌++◌, length, length-append, Option, Some, None, arith, append_assoc, AllByRecursion, nat_tests, IsOrderedBy, row_at, with_row, with_row_at, without_row, each-append, absent_below, by_test, each-weaker, below-weaker, from-weaker, row_at-part, with_row-part, with_row_at-part, without_row-part, KeysBelow, KeysFrom, key_of_pair, value_at, HaveLaws, IsBase, base_of, rows_of}
+use Rattle.group_tree.proofs.Common.{◌≡◌, ◌∙◌, refl, sym, ap, subst, ℕ, ◌+◌, ◌*◌, ◌<◌, ◌≤◌, ◌==◌, nat_lt, List, [], ◌∷◌, ◌++◌, length, length-append, Option, Some, None, arith, append_assoc, AllByRecursion, nat_tests, IsOrderedBy, row_at, with_row, with_row_at, without_row, each-append, absent_below, by_test, each-weaker, below-weaker, from-weaker, row_at-part, with_row-part, with_row_at-part, without_row-part, KeysBelow, KeysFrom, key_of_pair, value_at, HaveLaws, IsBase, base_of, rows_of, IsFilled}
 use Rattle.group_tree.proofs.PlaceLemmas.{below_span, four_rows, from_base}
 use Rattle.group_tree.proofs.BaseLemmas.{base_base, base_high, base_low, base_step}
 
 module _ {G R : Type 0} (listed : ℕ → G → List (ℕ × R)) (Holds : ℕ → G → Type 0) (span : ℕ) {key_in : ℕ → ℕ → ℕ} (laws : HaveLaws listed Holds span key_in) where
-  -- a group that holds, and isn't empty
-  abbrev pub IsFilled : ℕ × G → Type 0
-  IsFilled p = Holds p.0 p.1 × (1 ≤ length (listed p.0 p.1))
-
   -- the rows of two lists of groups
   pub rows_of-append : (a b : List (ℕ × G)) → rows_of listed (a ++ b) ≡ rows_of listed a ++ rows_of listed b
   rows_of-append [] b = refl
@@ -19,14 +15,14 @@ module _ {G R : Type 0} (listed : ℕ → G → List (ℕ × R)) (Holds : ℕ �
   few_rows (p ∷ groups) each = omega (arith, few_rows groups each.1, four_rows laws p.0 p.1 each.0, length-append (listed p.0 p.1) (rows_of listed groups))
 
   -- the rows of groups that lie from a key on, and of groups that lie a span below it
-  pub rows_from : (k : ℕ) (groups : List (ℕ × G)) → AllByRecursion IsFilled groups → KeysFrom k groups → KeysFrom k (rows_of listed groups)
+  pub rows_from : (k : ℕ) (groups : List (ℕ × G)) → AllByRecursion (IsFilled listed Holds) groups → KeysFrom k groups → KeysFrom k (rows_of listed groups)
   rows_from k [] each from = tt
   rows_from k (p ∷ groups) each from =
       each-append (λ q. k ≤ key_of_pair q) (listed p.0 p.1) (rows_of listed groups)
       (from-weaker key_of_pair k p.0 (listed p.0 p.1) from.0 (from_base laws p.0 p.1 each.0.0))
       (rows_from k groups each.1 from.1)
 
-  pub rows_below : (k : ℕ) (groups : List (ℕ × G)) → IsBase span k → AllByRecursion IsFilled groups → KeysBelow k groups → KeysBelow k (rows_of listed groups)
+  pub rows_below : (k : ℕ) (groups : List (ℕ × G)) → IsBase span k → AllByRecursion (IsFilled listed Holds) groups → KeysBelow k groups → KeysBelow k (rows_of listed groups)
   rows_below k [] at each below = tt
   rows_below k (p ∷ groups) at each below =
       let group = laws.rules p.0 p.1 each.0.0 in
@@ -41,9 +37,9 @@ module _ {G R : Type 0} (listed : ℕ → G → List (ℕ × R)) (Holds : ℕ �
     pub list : groups ≡ front ++ (here ++ back)
     pub below : KeysBelow base front
     pub behind : KeysFrom (base + span) back
-    pub front_each : AllByRecursion IsFilled front
-    pub here_each : AllByRecursion IsFilled here
-    pub back_each : AllByRecursion IsFilled back
+    pub front_each : AllByRecursion (IsFilled listed Holds) front
+    pub here_each : AllByRecursion (IsFilled listed Holds) here
+    pub back_each : AllByRecursion (IsFilled listed Holds) back
 
   -- the group that was found at a key, or none
   abbrev pub group_at : ℕ → Option G → List (ℕ × G)
@@ -51,12 +47,12 @@ module _ {G R : Type 0} (listed : ℕ → G → List (ℕ × R)) (Holds : ℕ �
   group_at base (Some group) = (base, group) ∷ []
 
   -- groups behind another one lie a span behind it
-  behind_group : (base : ℕ) (groups : List (ℕ × G)) → IsBase span base → AllByRecursion IsFilled groups → AllByRecursion (λ q. base < key_of_pair q) groups → KeysFrom (base + span) groups
+  behind_group : (base : ℕ) (groups : List (ℕ × G)) → IsBase span base → AllByRecursion (IsFilled listed Holds) groups → AllByRecursion (λ q. base < key_of_pair q) groups → KeysFrom (base + span) groups
   behind_group base [] at each above = tt
   behind_group base (p ∷ groups) at each above =
       (base_step span laws.positive base p.0 at (laws.rules p.0 p.1 each.0.0).at above.0, behind_group base groups at each.1 above.1)
 
-  pub around : (base : ℕ) (groups : List (ℕ × G)) → IsBase span base → IsOrderedBy key_of_pair groups → AllByRecursion IsFilled groups → Around base groups (group_at base (value_at base groups))
+  pub around : (base : ℕ) (groups : List (ℕ × G)) → IsBase span base → IsOrderedBy key_of_pair groups → AllByRecursion (IsFilled listed Holds) groups → Around base groups (group_at base (value_at base groups))
   around base [] at ordered each = record { front = []; back = []; list = refl; below = tt; behind = tt; front_each = tt; here_each = tt; back_each = tt }
   around base (p ∷ groups) at ordered each =
       by_test (p.0 == base)
@@ -68,7 +64,7 @@ module _ {G R : Type 0} (listed : ℕ → G → List (ℕ × R)) (Holds : ℕ �
         below = tt;
         behind = behind_group base groups at each.1 (subst (λ (b : ℕ). AllByRecursion (λ q. b < key_of_pair q) groups) same ordered.0);
         front_each = tt;
-        here_each = (subst (λ (b : ℕ). IsFilled (b, p.1)) same each.0, tt);
+        here_each = (subst (λ (b : ℕ). IsFilled listed Holds (b, p.1)) same each.0, tt);
         back_each = each.1;
       }))
       (λ e. rw e (by_test (nat_lt p.0 base)

@@ -2,14 +2,12 @@ pub mod Common
 pub mod BaseLemmas
 pub mod PlaceLemmas
 pub mod GroupsLemmas
+pub mod SideLemmas
 pub mod TreeLemmas
-pub mod PlacedLemmas
+pub mod NumberedLemmas
 pub mod TableLemmas
 pub mod WalkLemmas
-pub mod TypeLemmas
-pub mod AccessLemmas
-pub mod FacilityLemmas
-pub mod HourLemmas
+pub mod TypedLemmas
 pub mod ForwardingLemmas
 pub mod PageLemmas
 pub mod CutLemmas

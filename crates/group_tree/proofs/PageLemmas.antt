@@ -1,11 +1,12 @@
 -- The rows of groups one after another, from a key on.
-use Rattle.group_tree.proofs.Common.{AreGroupsAt, rows_beside, rows_in, length-map, ◌≡◌, ◌∙◌, refl, sym, ap, subst, ℕ, zero, suc, IfSome, ◌+◌, ◌*◌, ◌<◌, ◌≤◌, nat_le, true, false, Bool, List, [], ◌∷◌, ◌++◌, length, map, take, get_or, take_more, Option, Some, None, arith, append_assoc, append-nil, length-append, length-take, AllByRecursion, filter, nat_tests, filter-append, each-weaker, each-left, by_test, keys_from, IsOrderedBy, key_of_pair, value_at, below-weaker, from-weaker, key_limit, AreGroups, HaveLaws, base_of, rows_of, IsPage, FoldsRows, folds_append, Bor}
+use Rattle.group_tree.proofs.Common.{AreGroupsAt, rows_beside, rows_in, length-map, ◌≡◌, ◌∙◌, refl, sym, ap, subst, ℕ, zero, suc, IfSome, ◌+◌, ◌*◌, ◌<◌, ◌≤◌, nat_le, true, false, Bool, List, [], ◌∷◌, ◌++◌, length, map, take, get_or, take_more, Option, Some, None, arith, append_assoc, append-nil, length-append, length-take, AllByRecursion, filter, nat_tests, filter-append, each-weaker, each-left, by_test, keys_from, IsOrderedBy, key_of_pair, value_at, below-weaker, from-weaker, key_limit, AreGroups, HaveLaws, base_of, rows_of, IsPage, FoldsRows, folds_append, Bor, IsFilled}
 use Rattle.std.specs.Option.{option_to_list}
 use Rattle.tatp_rows.proofs.HalfLemmas.{from_all}
 use Rattle.group_tree.proofs.BaseLemmas.{base_base, base_high, base_low}
-use Rattle.group_tree.proofs.GroupsLemmas.{Around, IsFilled, few_rows, rows_below, rows_from, rows_of-append}
+use Rattle.group_tree.proofs.GroupsLemmas.{Around, few_rows, rows_below, rows_from, rows_of-append}
 use Rattle.group_tree.proofs.PlaceLemmas.{four_rows}
-use Rattle.group_tree.proofs.TreeLemmas.{beside, front_gone, its_rules, its_value, none_beside, none_there, some_beside}
+use Rattle.group_tree.proofs.TreeLemmas.{beside, its_rules, its_value, none_beside, none_there, some_beside}
+use Rattle.group_tree.proofs.SideLemmas.{from_gone}
 
 -- the keys from 0 on are all
 pub from_zero : {R : Type 0} (rows : List (ℕ × R)) → keys_from key_of_pair 0 rows ≡ rows
@@ -74,7 +75,7 @@ each_take P (suc n) (x ∷ xs) each = (each.0, each_take P n xs each.1)
 module _ {G R : Type 0} {listed : ℕ → G → List (ℕ × R)} {Holds : ℕ → G → Type 0} {span : ℕ} {key_in : ℕ → ℕ → ℕ} (laws : HaveLaws listed Holds span key_in) where
   -- a walk over groups is one over their rows
   pub walked_groups : {A : Type 0} (Gives : A → ℕ → Bor R → A → Type 0) (Steps : A → ℕ → Bor G → A → Type 0) → ((a b : A) (k : ℕ) (r : Bor G) → Holds k r.now → Steps a k r b → FoldsRows Gives a (listed k r.now) b)
-      → (groups : List (ℕ × G)) → AllByRecursion (IsFilled listed Holds span laws) groups → (a b : A) → FoldsRows Steps a groups b → FoldsRows Gives a (rows_of listed groups) b
+      → (groups : List (ℕ × G)) → AllByRecursion (IsFilled listed Holds) groups → (a b : A) → FoldsRows Steps a groups b → FoldsRows Gives a (rows_of listed groups) b
   walked_groups Gives Steps each_step [] each a b h = h
   walked_groups Gives Steps each_step (p ∷ groups) each a b h =
       let same : h.1.now ≡ p.1 = h.2 in
@@ -108,12 +109,12 @@ module _ {G R : Type 0} {listed : ℕ → G → List (ℕ × R)} {Holds : ℕ �
       let far : key ≤ base + span = omega (arith, base_high span laws.positive key) in
       let others : keys_from key_of_pair from groups ≡ a.back =
       ap (keys_from key_of_pair from) a.list
-      ∙ front_gone from a.front (here ++ a.back) (below-weaker key_of_pair base from a.front low a.below)
+      ∙ from_gone from a.front (here ++ a.back) (below-weaker key_of_pair base from a.front low a.below)
       ∙ filter-append _ here a.back ∙ ap (λ l. l ++ keys_from key_of_pair from a.back) none
       ∙ from_all key_of_pair from a.back (from-weaker key_of_pair from (base + span) a.back high a.behind) in
       ap (λ gs. keys_from key_of_pair key (rows_of listed gs)) a.list
       ∙ ap (keys_from key_of_pair key) (rows_of-append listed Holds span laws a.front (here ++ a.back) ∙ ap (λ l. front ++ l) (rows_of-append listed Holds span laws here a.back))
-      ∙ front_gone key front (own ++ back) (below-weaker key_of_pair base key front (base_low span laws.positive key) (rows_below listed Holds span laws base a.front (base_base span laws.positive key) a.front_each a.below))
+      ∙ from_gone key front (own ++ back) (below-weaker key_of_pair base key front (base_low span laws.positive key) (rows_below listed Holds span laws base a.front (base_base span laws.positive key) a.front_each a.below))
       ∙ filter-append _ own back
       ∙ ap (λ l. keys_from key_of_pair key own ++ l) (from_all key_of_pair key back (from-weaker key_of_pair key (base + span) back far behind))
       ∙ ap (λ gs. keys_from key_of_pair key own ++ rows_of listed gs) (sym others)
@@ -154,11 +155,11 @@ module _ {G R : Type 0} {listed : ℕ → G → List (ℕ × R)} {Holds : ℕ �
   -- the groups of a page, which hold
   pub page_holds : (groups page rest : List (ℕ × G)) (from : ℕ) → AreGroups listed Holds groups → keys_from key_of_pair from groups ≡ page ++ rest → AllByRecursion (λ p. Holds p.0 p.1) page
   page_holds groups page rest from are e =
-      each-weaker {P = IsFilled listed Holds span laws} (λ p h. h.0) page (page_filled groups page rest from are e)
+      each-weaker {P = IsFilled listed Holds} (λ p h. h.0) page (page_filled groups page rest from are e)
     where
-      page_filled : (groups page rest : List (ℕ × G)) (from : ℕ) → AreGroups listed Holds groups → keys_from key_of_pair from groups ≡ page ++ rest → AllByRecursion (IsFilled listed Holds span laws) page
+      page_filled : (groups page rest : List (ℕ × G)) (from : ℕ) → AreGroups listed Holds groups → keys_from key_of_pair from groups ≡ page ++ rest → AllByRecursion (IsFilled listed Holds) page
       page_filled groups page rest from are e =
-          each-left (IsFilled listed Holds span laws) page rest (subst (AllByRecursion (IsFilled listed Holds span laws)) e (each-filter (IsFilled listed Holds span laws) _ groups are.each))
+          each-left (IsFilled listed Holds) page rest (subst (AllByRecursion (IsFilled listed Holds)) e (each-filter (IsFilled listed Holds) _ groups are.each))
 
   -- a page of rows is made of the key's own and those of a page of groups
   pub whole_page : (groups gpage : List (ℕ × G)) (from key : ℕ) (own page : List (ℕ × R)) → AreGroups listed Holds groups → IsPage from groups gpage → keys_from key_of_pair key (rows_of listed groups) ≡ own ++ rows_of listed (keys_from key_of_pair from groups)
@@ -177,12 +178,12 @@ module _ {G R : Type 0} {listed : ℕ → G → List (ℕ × R)} {Holds : ℕ �
       no_back [] b e = e
       no_back (x ∷ a) b e = let wrong : ⊥ = cc in absurd wrong
 
-      no_groups : (gs : List (ℕ × G)) → AllByRecursion (IsFilled listed Holds span laws) gs → rows_of listed gs ≡ [] → gs ≡ []
+      no_groups : (gs : List (ℕ × G)) → AllByRecursion (IsFilled listed Holds) gs → rows_of listed gs ≡ [] → gs ≡ []
       no_groups [] each e = refl
       no_groups (p ∷ gs) each e = absurd (let size = ap length e in omega (arith, size, each.0.1, length-append (listed p.0 p.1) (rows_of listed gs)))
 
-      filled : AllByRecursion (IsFilled listed Holds span laws) gpage
-      filled = each-left (IsFilled listed Holds span laws) gpage is.rest (subst (AllByRecursion (IsFilled listed Holds span laws)) is.front (each-filter (IsFilled listed Holds span laws) _ groups are.each))
+      filled : AllByRecursion (IsFilled listed Holds) gpage
+      filled = each-left (IsFilled listed Holds) gpage is.rest (subst (AllByRecursion (IsFilled listed Holds)) is.front (each-filter (IsFilled listed Holds) _ groups are.each))
 
   -- the group that was found for one of several keys
   many_value : (groups : List (ℕ × G)) (keys : List ℕ) (i : ℕ) (d : Option G) → i < length keys → get_or (map (λ k. value_at k groups) (map (base_of span) keys)) i d ≡ value_at (base_of span (get_or keys i 0)) groups

@@ -1,10 +1,11 @@
 -- What the calls of a tree of groups say of its rows.
-use Rattle.group_tree.proofs.Common.{◌≡◌, ◌∙◌, refl, sym, ap, subst, ℕ, ◌+◌, ◌<◌, ◌≤◌, ◌≢◌, List, [], ◌∷◌, ◌++◌, length, Option, Some, None, option_map, IsSome, is_some, arith, append-nil, AllByRecursion, nat_tests, filter-append, filter_all, filter_none, each-weaker, keys_below, keys_from, rows_beside, with_row_at_absent, without_row_absent, length-with_row_at, IsHeightOf, IsHeightOfGroups, length-append, IfErr, IfSome, row_at, with_row, with_row_at, without_row, each-with_row, each-with_row_at, each-without_row, ordered-with_row, ordered-with_row_at, ordered-without_row, from-weaker, length-with_row, with_row-front, with_row-skip, with_row_at-here, without_row-here, KeysBelow, KeysFrom, key_of_pair, value_at, AreGroups, HaveLaws, base_of, rows_of, Result, Ok, Err, if◌then◌else◌, Bor, each-append, Back, Refusal, Exists, Memory, IsInserted}
+use Rattle.group_tree.proofs.Common.{◌≡◌, ◌∙◌, refl, sym, ap, subst, ℕ, ◌+◌, ◌<◌, ◌≤◌, ◌≢◌, List, [], ◌∷◌, ◌++◌, length, Option, Some, None, option_map, IsSome, is_some, arith, append-nil, AllByRecursion, nat_tests, filter-append, filter_all, each-weaker, keys_below, rows_beside, with_row_at_absent, without_row_absent, length-with_row_at, IsHeightOf, IsHeightOfGroups, length-append, IfErr, IfSome, row_at, with_row, with_row_at, without_row, each-with_row, each-with_row_at, each-without_row, ordered-with_row, ordered-with_row_at, ordered-without_row, from-weaker, length-with_row, with_row-front, with_row-skip, with_row_at-here, without_row-here, KeysFrom, key_of_pair, value_at, AreGroups, HaveLaws, base_of, rows_of, Result, Ok, Err, if◌then◌else◌, Bor, each-append, Back, Refusal, Exists, Memory, IsInserted, IsFilled}
 use Rattle.row_groups.proofs.FilledLemmas.{none_mapped}
 use Rattle.tatp_rows.proofs.HalfLemmas.{below_none, from_all}
 use Rattle.group_tree.proofs.BaseLemmas.{base_base}
 use Rattle.group_tree.proofs.PlaceLemmas.{below_span, from_base}
-use Rattle.group_tree.proofs.GroupsLemmas.{Around, IsFilled, around, few_rows, found_beside, group_at, put_beside, removed_beside, replaced_beside, rows_below, rows_from, rows_of-append}
+use Rattle.group_tree.proofs.SideLemmas.{from_gone}
+use Rattle.group_tree.proofs.GroupsLemmas.{Around, around, few_rows, found_beside, group_at, put_beside, removed_beside, replaced_beside, rows_below, rows_from, rows_of-append}
 
 -- the answer of an insertion, with the row in place of its group
 abbrev pub IsHandedOn : {G R : Type 0} → Result (Unit {0}) (Back G) → R → Result (Unit {0}) (Back R) → Type 0
@@ -19,12 +20,6 @@ no_pair key rows e = none_mapped (λ p. p.1) (row_at key_of_pair key rows) e
 emptied : {X : Type 0} (xs : List X) → length xs ≡ 0 → xs ≡ []
 emptied [] e = refl
 emptied (x ∷ xs) e = absurd (omega (arith, e))
-
--- the rows from a key on, behind others that are below it
-pub front_gone : {R : Type 0} (key : ℕ) (a b : List (ℕ × R)) → KeysBelow key a → keys_from key_of_pair key (a ++ b) ≡ keys_from key_of_pair key b
-front_gone key a b below =
-    filter-append _ a b
-    ∙ ap (λ none. none ++ keys_from key_of_pair key b) (filter_none _ a (each-weaker (λ p less. grind (arith, nat_tests)) a below))
 
 module _ {G R : Type 0} {listed : ℕ → G → List (ℕ × R)} {Holds : ℕ → G → Type 0} {span : ℕ} {key_in : ℕ → ℕ → ℕ} (laws : HaveLaws listed Holds span key_in) {groups : List (ℕ × G)} (are : AreGroups listed Holds groups) (key : ℕ) {base : ℕ} (at : base ≡ base_of span key) where
   -- the groups around the one that was found
@@ -57,7 +52,7 @@ module _ {G R : Type 0} {listed : ℕ → G → List (ℕ × R)} {Holds : ℕ �
       let back_from = rows_from listed Holds span laws (low + span) a.back a.back_each a.behind in
       ap (λ gs. rows_beside span key (rows_of listed gs)) a.list
       ∙ ap (rows_beside span key) (rows_of-append listed Holds span laws a.front a.back)
-      ∙ ap (keys_below key_of_pair (low + span)) (front_gone low (rows_of listed a.front) (rows_of listed a.back) front_below ∙ from_all key_of_pair low (rows_of listed a.back) (from-weaker key_of_pair low (low + span) (rows_of listed a.back) (omega arith) back_from))
+      ∙ ap (keys_below key_of_pair (low + span)) (from_gone low (rows_of listed a.front) (rows_of listed a.back) front_below ∙ from_all key_of_pair low (rows_of listed a.back) (from-weaker key_of_pair low (low + span) (rows_of listed a.back) (omega arith) back_from))
       ∙ below_none key_of_pair (low + span) (rows_of listed a.back) back_from
 
   module _ (group : G) (found : Some group ≡ value_at base groups) where
@@ -100,7 +95,7 @@ module _ {G R : Type 0} {listed : ℕ → G → List (ℕ × R)} {Holds : ℕ �
         let both_from = each-append (λ q. low ≤ key_of_pair q) own back (from_base laws low group its_rules) (from-weaker key_of_pair low (low + span) back (omega arith) back_from) in
         ap (λ gs. rows_beside span key (rows_of listed gs)) around_it.list
         ∙ ap (rows_beside span key) (rows_of-append listed Holds span laws around_it.front ((low, group) ∷ around_it.back))
-        ∙ ap (keys_below key_of_pair (low + span)) (front_gone low front (own ++ back) front_below ∙ from_all key_of_pair low (own ++ back) both_from)
+        ∙ ap (keys_below key_of_pair (low + span)) (from_gone low front (own ++ back) front_below ∙ from_all key_of_pair low (own ++ back) both_from)
         ∙ filter-append _ own back
         ∙ ap (λ none. keys_below key_of_pair (low + span) own ++ none) (below_none key_of_pair (low + span) back back_from)
         ∙ append-nil (keys_below key_of_pair (low + span) own)
@@ -141,10 +136,10 @@ module _ {G R : Type 0} {listed : ℕ → G → List (ℕ × R)} {Holds : ℕ �
       -- the groups with another one in its place
       pub are_with : Holds (base_of span key) new → 1 ≤ length (listed (base_of span key) new) → AreGroups listed Holds (with_row_at key_of_pair base (base, new) groups)
       are_with holds some =
-          let it : IsFilled listed Holds span laws (base, new) = subst (λ (b : ℕ). IsFilled listed Holds span laws (b, new)) (sym at) (holds, some) in
+          let it : IsFilled listed Holds (base, new) = subst (λ (b : ℕ). IsFilled listed Holds (b, new)) (sym at) (holds, some) in
           record {
             ordered = ordered-with_row_at key_of_pair base (base, new) groups refl are.ordered;
-            each = each-with_row_at key_of_pair (IsFilled listed Holds span laws) base (base, new) groups it are.each;
+            each = each-with_row_at key_of_pair (IsFilled listed Holds) base (base, new) groups it are.each;
           }
 
     -- a row that is put into its group
@@ -159,7 +154,7 @@ module _ {G R : Type 0} {listed : ℕ → G → List (ℕ × R)} {Holds : ℕ �
     pub put_refused : (row : R) → IsSome (row_at key_of_pair key (listed (base_of span key) group)) → IsInserted key row (rows_of listed groups) (rows_of listed groups) (Err (record { why = Exists; item = row }))
     put_refused row there = (refl, refl, sym (ap (λ o. if is_some o then Exists else Memory) its_row ∙ rw there refl))
 
-    -- a row that takes the place of another one
+    -- a row that replaces another one
     pub replaced_are : (new : G) (row : R) → listed (base_of span key) new ≡ with_row_at key_of_pair key (key, row) (listed (base_of span key) group) → Holds (base_of span key) new → AreGroups listed Holds (with_row_at key_of_pair base (base, new) groups)
     replaced_are new row e holds =
         are_with new holds (rw (e, length-with_row_at key_of_pair key (key, row) (listed (base_of span key) group)) its_size)
@@ -178,7 +173,7 @@ module _ {G R : Type 0} {listed : ℕ → G → List (ℕ × R)} {Holds : ℕ �
     pub are_without : AreGroups listed Holds (without_row key_of_pair base groups)
     are_without = record {
       ordered = ordered-without_row key_of_pair base groups are.ordered;
-      each = each-without_row key_of_pair (IsFilled listed Holds span laws) base groups are.each;
+      each = each-without_row key_of_pair (IsFilled listed Holds) base groups are.each;
     }
 
   module _ (missing : None ≡ value_at base groups) (new : G) (row : R) (lone : listed (base_of span key) new ≡ (key, row) ∷ []) where
@@ -200,10 +195,10 @@ module _ {G R : Type 0} {listed : ℕ → G → List (ℕ × R)} {Holds : ℕ �
     pub are_more : Holds (base_of span key) new → AreGroups listed Holds (with_row key_of_pair (base, new) groups)
     are_more holds =
         let some : 1 ≤ length (listed (base_of span key) new) = rw lone (omega arith) in
-        let it : IsFilled listed Holds span laws (base, new) = subst (λ (b : ℕ). IsFilled listed Holds span laws (b, new)) (sym at) (holds, some) in
+        let it : IsFilled listed Holds (base, new) = subst (λ (b : ℕ). IsFilled listed Holds (b, new)) (sym at) (holds, some) in
         record {
           ordered = ordered-with_row key_of_pair (base, new) groups (no_pair base groups missing) are.ordered;
-          each = each-with_row key_of_pair (IsFilled listed Holds span laws) (base, new) groups it are.each;
+          each = each-with_row key_of_pair (IsFilled listed Holds) (base, new) groups it are.each;
         }
 
     -- what the addition of a group with one row makes of the groups
@@ -235,14 +230,14 @@ module _ {G R : Type 0} {listed : ℕ → G → List (ℕ × R)} {Holds : ℕ �
 
 -- each group has one to four rows
 module _ {G R : Type 0} {listed : ℕ → G → List (ℕ × R)} {Holds : ℕ → G → Type 0} {span : ℕ} {key_in : ℕ → ℕ → ℕ} (laws : HaveLaws listed Holds span key_in) where
-  fewer_groups : (groups : List (ℕ × G)) → AllByRecursion (IsFilled listed Holds span laws) groups → length groups ≤ length (rows_of listed groups)
+  fewer_groups : (groups : List (ℕ × G)) → AllByRecursion (IsFilled listed Holds) groups → length groups ≤ length (rows_of listed groups)
   fewer_groups [] each = omega arith
   fewer_groups (p ∷ groups) each = omega (arith, fewer_groups groups each.1, each.0.1, length-append (listed p.0 p.1) (rows_of listed groups))
 
   pub height_of_rows : (groups : List (ℕ × G)) → AreGroups listed Holds groups → (height : ℕ) → IsHeightOf height (length groups) → IsHeightOfGroups height (length (rows_of listed groups))
   height_of_rows groups are height h =
       let low = fewer_groups groups are.each in
-      let high = few_rows listed Holds span laws groups (each-weaker {P = IsFilled listed Holds span laws} (λ p h. h.0) groups are.each) in
+      let high = few_rows listed Holds span laws groups (each-weaker {P = IsFilled listed Holds} (λ p h. h.0) groups are.each) in
       record {
         low = λ some. omega (arith, h.low some, low);
         high = omega (arith, h.high, high);

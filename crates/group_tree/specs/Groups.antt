@@ -44,17 +44,21 @@ abbrev pub rows_of : {G R : Type 0} → (ℕ → G → List (ℕ × R)) → List
 rows_of listed [] = []
 rows_of listed (p ∷ groups) = listed p.0 p.1 ++ rows_of listed groups
 
--- groups in order, none of them empty
+-- a group that keeps its rules, and isn't empty
+abbrev pub IsFilled : {G R : Type 0} → (ℕ → G → List (ℕ × R)) → (ℕ → G → Type 0) → ℕ × G → Type 0
+IsFilled listed Holds p = Holds p.0 p.1 × (1 ≤ length (listed p.0 p.1))
+
+-- such groups in order
 pub record AreGroups {G R : Type 0} (listed : ℕ → G → List (ℕ × R)) (Holds : ℕ → G → Type 0) (groups : List (ℕ × G)) : Type 0 where
   pub ordered : IsOrderedBy key_of_pair groups
-  pub each : AllByRecursion (λ p. Holds p.0 p.1 × (1 ≤ length (listed p.0 p.1))) groups
+  pub each : AllByRecursion (IsFilled listed Holds) groups
 
 -- a row is put among others, or there is one with its key, and then nothing changes
 abbrev pub IsPutAt : {R : Type 0} → ℕ → R → List (ℕ × R) → List (ℕ × R) → Bool → Type 0
 IsPutAt key row before after true = (row_at key_of_pair key before ≡ None) × (after ≡ with_row key_of_pair (key, row) before)
 IsPutAt key row before after false = IsSome (row_at key_of_pair key before) × (after ≡ before)
 
--- a row takes the place of the one with its key, which is told, if there is one
+-- a row replaces the one with its key, which is the answer, if there is one
 pub record IsReplacedAt {R : Type 0} (key : ℕ) (row : R) (before after : List (ℕ × R)) (old : Option R) : Type 0 where
   pub value : old ≡ value_at key before
   pub rows : after ≡ with_row_at key_of_pair key (key, row) before

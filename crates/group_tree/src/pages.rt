@@ -67,8 +67,8 @@ fn push_groups<R: Row, G: Group<R>>(page: &mut ArrayVec<(u64, R), 132>, groups: 
     }
 }
 
-/// Puts the rows of a key's group, from the key on, into an empty page. It returns the key from which the groups behind
-/// that one are.
+/// Puts the rows of a key's group, from the key on, into an empty page. It returns a key; the groups from it on hold
+/// the rows that follow.
 fn start_page<R: Row, G: Group<R>>(
     groups: &SubTree<G>,
     key: u64,
@@ -89,8 +89,8 @@ fn start_page<R: Row, G: Group<R>>(
 
 impl<R: Row, G: Group<R>> GroupTree<R, G> {
     /// Puts the next rows, from a key on, into an empty page: those of the key's group, and those of as many groups
-    /// behind it as one leaf has. It puts at least one if there is one. The groups are found in an empty list of the
-    /// caller's.
+    /// behind it as one leaf has. It puts at least one if there is one. `groups` is an empty list that the call works
+    /// with.
     pub fn page_from(
         &self,
         key: u64,
@@ -107,8 +107,8 @@ impl<R: Row, G: Group<R>> GroupTree<R, G> {
     }
 
     /// Puts the groups to which up to 16 keys belong into an empty list, one for each key in the order of the keys. A
-    /// group has all rows whose keys lie in its span, and where there are none, it is `None` or has no rows. The keys are
-    /// looked up with overlapping memory accesses.
+    /// group has all rows whose keys lie in its span, and where there are none, it is `None` or has no rows. The keys
+    /// are looked up with overlapping memory accesses.
     pub fn copy_groups(&self, keys: &[u64], found: &mut ArrayVec<Option<G>, 16>)
         requires few { length keys.now ≤ 16 }
         requires empty { found.old.items ≡ [] }
@@ -118,8 +118,8 @@ impl<R: Row, G: Group<R>> GroupTree<R, G> {
     }
 
     /// Puts the rows at up to 16 keys into an empty list, one for each key in the order of the keys, with `None` for a
-    /// key that isn't there. The keys are looked up with overlapping memory accesses. The groups are found in an empty
-    /// list of the caller's.
+    /// key that isn't there. The keys are looked up with overlapping memory accesses. `groups` is an empty list that
+    /// the call works with.
     pub fn copy_many(
         &self,
         keys: &[u64],

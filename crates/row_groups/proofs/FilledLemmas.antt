@@ -110,7 +110,7 @@ read_place [] n found within e = absurd (omega arith)
 read_place (p ∷ ps) zero found within e = e
 read_place (p ∷ ps) (suc n) found within e = read_place ps n found (omega arith) e
 
--- an option that isn't some, or that a function of its value isn't
+-- an option is None if it isn't Some, or if a function maps it to None
 pub none_of : {X : Type 0} (found : Option X) → is_some found ≡ false → found ≡ None
 none_of None none = refl
 none_of (Some x) none = absurd cc

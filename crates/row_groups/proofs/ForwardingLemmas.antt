@@ -1,7 +1,7 @@
 -- The rules of groups of Call_Forwarding rows, and their words.
 use Rattle.row_groups.proofs.Common.{◌≡◌, ◌∙◌, ◌≢◌, ◌≤◌, ◌<◌, ◌*◌, ◌∷◌, [], ℕ, zero, suc, refl, List, Option, None, Some, IsTrue, false, true, arith, nat_tests, both_from, length, get_or, is_some, row_at, ForwardingData, AreForwardings, forwarding_keys, forwarding_row, forwarding_start, filled, filled-found, filled-ordered, is_start_time, forwarding_at, forwarding_data, forwarding_with, option_map, set, sym, subst, without_row, with_row_at, IsPut, IsSome, Ok, Err, Exists, CallForwardingRow, is_in_time, map, filter, option_to_list, ap, nat_le, nat_lt}
 use Rattle.row_groups.proofs.FilledLemmas.{filled-each, filled-missing, filled-taken}
-use Rattle.row_groups.proofs.GroupLemmas.{put_free, put_over, put_refused}
+use Rattle.row_groups.proofs.GroupLemmas.{put_over, put_read, refused_read}
 
 -- the first three places have hours at which a forwarding may start
 start_of_place : (place : ℕ) → place < 3 → IsTrue (is_start_time (8 * place))
@@ -31,17 +31,13 @@ hour_found n k words e =
     subst (λ (hour : ℕ). option_map (forwarding_at hour) (get_or words n None) ≡ row_at forwarding_start hour (filled forwarding_row 0 words)) e
     (sym (filled-found forwarding_row forwarding_start (λ place. 8 * place) forwarding_keys 0 n n words (omega arith)))
 
--- a row is put into the free place of its start time
-pub hour_put : (row : CallForwardingRow) (n : ℕ) (words : List (Option ForwardingData)) → 8 * n ≡ row.start_time → n < length words → get_or words n None ≡ None
-    → IsPut forwarding_start (forwarding_with 0 0 row) (filled forwarding_row 0 words) (filled forwarding_row 0 (set words n (Some (forwarding_data row)))) (Ok tt)
-hour_put row n words e within free =
-    put_free forwarding_row forwarding_start (λ place. 8 * place) forwarding_keys 0 n n (forwarding_data row) (forwarding_with 0 0 row) words (omega arith) (rw e refl) within free
+-- a row is put into the place of its start time, or is refused there
+module _ (row : CallForwardingRow) (n : ℕ) (words : List (Option ForwardingData)) (at : 8 * n ≡ row.start_time) (within : n < length words) (found : Option ForwardingData) (read : found ≡ get_or words n found) where
+  pub hour_put : is_some (get_or words n found) ≡ false → IsPut forwarding_start (forwarding_with 0 0 row) (filled forwarding_row 0 words) (filled forwarding_row 0 (set words n (Some (forwarding_data row)))) (Ok tt)
+  hour_put free = put_read forwarding_row forwarding_start (λ place. 8 * place) forwarding_keys 0 n n (forwarding_with 0 0 row) words (omega arith) within found read (forwarding_data row) (rw at refl) free
 
--- a row whose start time is taken is refused
-pub hour_refused : (row : CallForwardingRow) (n : ℕ) (words : List (Option ForwardingData)) → 8 * n ≡ row.start_time → is_some (get_or words n None) ≡ true
-    → IsPut forwarding_start (forwarding_with 0 0 row) (filled forwarding_row 0 words) (filled forwarding_row 0 words) (Err Exists)
-hour_refused row n words e taken =
-    put_refused forwarding_row forwarding_start (λ place. 8 * place) forwarding_keys 0 n n (forwarding_with 0 0 row) words (omega arith) (sym e) taken
+  pub hour_refused : is_some (get_or words n found) ≡ true → IsPut forwarding_start (forwarding_with 0 0 row) (filled forwarding_row 0 words) (filled forwarding_row 0 words) (Err Exists)
+  hour_refused taken = refused_read forwarding_row forwarding_start (λ place. 8 * place) forwarding_keys 0 n n (forwarding_with 0 0 row) words (omega arith) within found read (sym at) taken
 
 -- the row of a start time is removed with its word
 pub hour_removed : (n k : ℕ) (words : List (Option ForwardingData)) → 8 * n ≡ k → filled forwarding_row 0 (set words n None) ≡ without_row forwarding_start k (filled forwarding_row 0 words)
@@ -49,7 +45,7 @@ hour_removed n k words e =
     subst (λ (hour : ℕ). filled forwarding_row 0 (set words n None) ≡ without_row forwarding_start hour (filled forwarding_row 0 words)) e
     (sym (filled-taken forwarding_row forwarding_start (λ place. 8 * place) forwarding_keys 0 n n words (omega arith)))
 
--- another row takes the place of the one of its start time
+-- a row replaces the one of its start time
 pub hour_replaced : (row : CallForwardingRow) (n : ℕ) (words : List (Option ForwardingData)) → 8 * n ≡ row.start_time → IsSome (row_at forwarding_start row.start_time (filled forwarding_row 0 words))
     → filled forwarding_row 0 (set words n (Some (forwarding_data row))) ≡ with_row_at forwarding_start row.start_time (forwarding_with 0 0 row) (filled forwarding_row 0 words)
 hour_replaced row n words e found =

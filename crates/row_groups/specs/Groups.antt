@@ -7,6 +7,15 @@ use Rattle.tatp_rows.specs.Rows.{AccessInfoRow, SpecialFacilityRow, CallForwardi
 use Rattle.tatp_rows.specs.declared.refusal.Refusal.{Refusal}
 use Rattle.tatp_rows.specs.declared.refusal.Refusal.TheVariants.{Exists}
 
+-- a row whose type is 1 to 4, without its subscriber
+abbrev pub IsTypedRow : {R : Type 0} → (R → ℕ) → (R → ℕ) → R → Type 0
+IsTypedRow s_id type_of row = (s_id row ≡ 0) × (1 ≤ type_of row) × (type_of row ≤ 4)
+
+-- such rows of one subscriber: in the order of their types, at most one of each
+pub record AreTyped {R : Type 0} (s_id type_of : R → ℕ) (rows : List R) : Type 0 where
+  pub ordered : IsOrderedBy type_of rows
+  pub each : AllByRecursion (IsTypedRow s_id type_of) rows
+
 -- the key of an Access_Info row among those of its subscriber
 abbrev pub access_type : AccessInfoRow → ℕ
 access_type row = row.ai_type
@@ -15,10 +24,9 @@ access_type row = row.ai_type
 abbrev pub access_with : ℕ → AccessInfoRow → AccessInfoRow
 access_with s_id row = record row { s_id = s_id }
 
--- the rows of a group: at most one for each type, with no subscriber
-pub record AreAccesses (rows : List AccessInfoRow) : Type 0 where
-  pub ordered : IsOrderedBy access_type rows
-  pub each : AllByRecursion (λ row. (row.s_id ≡ 0) × (1 ≤ row.ai_type) × (row.ai_type ≤ 4)) rows
+-- the rows of a group of accesses
+abbrev pub AreAccesses : List AccessInfoRow → Type 0
+AreAccesses rows = AreTyped (λ row. row.s_id) access_type rows
 
 -- the key of a Special_Facility row among those of its subscriber
 abbrev pub facility_type : SpecialFacilityRow → ℕ
@@ -28,10 +36,9 @@ facility_type row = row.sf_type
 abbrev pub facility_with : ℕ → SpecialFacilityRow → SpecialFacilityRow
 facility_with s_id row = record row { s_id = s_id }
 
--- the rows of a group: at most one for each type, with no subscriber
-pub record AreFacilities (rows : List SpecialFacilityRow) : Type 0 where
-  pub ordered : IsOrderedBy facility_type rows
-  pub each : AllByRecursion (λ row. (row.s_id ≡ 0) × (1 ≤ row.sf_type) × (row.sf_type ≤ 4)) rows
+-- the rows of a group of facilities
+abbrev pub AreFacilities : List SpecialFacilityRow → Type 0
+AreFacilities rows = AreTyped (λ row. row.s_id) facility_type rows
 
 -- the key of a Call_Forwarding row among those of its facility
 abbrev pub forwarding_start : CallForwardingRow → ℕ

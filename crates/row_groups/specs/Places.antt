@@ -1,5 +1,5 @@
--- The places of a group, and the rows that lie in them. The rows tell the places as well, because a group may be copied,
--- and a model of values that are copied has an inverse.
+-- The places of a group, and the rows that lie in them. The places can be worked out from the rows. The model of a
+-- group needs that, because a type that is copied needs a model with an inverse.
 use Rattle.std.specs.Prelude.{◌≡◌, refl, ℕ, zero, suc, ◌+◌, ◌<◌, ◌==◌, List, [], ◌∷◌, length, Option, Some, None, option_map, true, false}
 use Rattle.std.specs.List.{AllByRecursion}
 use Rattle.std.proofs.Common.{arith, drop, get_or, subst, sym}
@@ -15,7 +15,7 @@ filled row place [] = []
 filled row place (None ∷ places) = filled row (suc place) places
 filled row place (Some d ∷ places) = row place d ∷ filled row (suc place) places
 
--- so many places with rows, by the rows' keys
+-- `size` places from one on, each with what the row at its key has, or with nothing
 abbrev pub placed : {D R : Type 0} → (R → D) → (R → ℕ) → (ℕ → ℕ) → ℕ → ℕ → List R → List (Option D)
 placed data_of key at zero place rows = []
 placed data_of key at (suc size) place rows = option_map data_of (row_at key (at place) rows) ∷ placed data_of key at size (suc place) rows

@@ -220,7 +220,7 @@ fn at_most(value: u64, limit: u64) -> u64
 }
 
 impl KeyFields {
-    /// The key as one number. A field past its range is cut off behind all that are in range.
+    /// Returns the key as one number. A field past its range is packed as the least number above its range.
     fn packed(&self) -> u64
         ensures { result ≡ packed_from self.now }
     {
@@ -245,7 +245,7 @@ fn write_page<V, T: FromRow<V>>(page: &[(u64, V)], rows: &mut [T], place: usize)
 }
 
 /// Writes the rows of a tree from a key on into a list from a place on, as many as it has room for, and gives the place
-/// behind them. A leaf's rows are found at a time, by one way down from the root, in a page that the caller has.
+/// behind them. It goes down from the root once for each leaf, and copies that leaf's rows into `page`.
 fn write_from<V: Copy + Default, T: FromRow<V>>(
     tree: &SubTree<V>,
     key: u64,
@@ -273,8 +273,8 @@ fn write_from<V: Copy + Default, T: FromRow<V>>(
     behind
 }
 
-/// Writes the rows of a tree of groups, as `write_from` does. The groups of a leaf are found at a time, in a list that
-/// the caller has, and their rows in a page.
+/// Writes the rows of a tree of groups, as `write_from` does. It copies the groups of a leaf into `groups`, and their
+/// rows into `page`.
 fn write_groups_from<R: Row, G: Group<R>, T: FromRow<R>>(
     tree: &GroupTree<R, G>,
     key: u64,

@@ -1,8 +1,9 @@
-use Rattle.group_tree.proofs.FacilityLemmas.{facility_put, holds_put}
+use Rattle.group_tree.proofs.TypedLemmas.{facilities, typed_put, holds_put}
+use Rattle.tatp_rows.proofs.RowLemmas as ranges
 use Rattle.group_tree.proofs.facilities.FacilitiesGroupFacility.insert.Goals as goal
 
 pub returns-clause-rows : goal.returns-clause-rows
-returns-clause-rows c = rw c.is_ok.ensures.value (facility_put c.args.row.now c.s_id-s_id.ensures.in_range c.args.self.now c.insert.new.self c.insert.result c.insert.ensures)
+returns-clause-rows c = rw c.is_ok.ensures.value (typed_put facilities c.args.row.now (ranges.facility_type c.args.row.now c.s_id-s_id.ensures.in_range) c.args.self.now c.insert.new.self c.insert.result c.insert.ensures)
 
 pub returns-clause-rules : goal.returns-clause-rules
-returns-clause-rules c = holds_put c.args.row.now c.s_id-s_id.ensures.in_range _ c.args.self.now c.insert.new.self c.insert.result c.requires c.insert.ensures
+returns-clause-rules c = holds_put facilities c.args.row.now (ranges.facility_type c.args.row.now c.s_id-s_id.ensures.in_range) _ c.args.self.now c.insert.new.self c.insert.result c.requires c.insert.ensures

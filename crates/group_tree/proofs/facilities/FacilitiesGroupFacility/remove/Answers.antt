@@ -1,18 +1,18 @@
 use Rattle.group_tree.proofs.Common.{◌∙◌, ap, option_map, sym}
-use Rattle.group_tree.proofs.FacilityLemmas.{facility_found, facility_left, facility_left_there, facility_missing, holds_without}
+use Rattle.group_tree.proofs.TypedLemmas.{facilities, typed_found, typed_left, typed_left_there, typed_missing, holds_without}
 use Rattle.group_tree.proofs.facilities.FacilitiesGroupFacility.remove.Goals as goal
 
 pub returns-then-start_time_in-ne0-clause-value : goal.returns-then-start_time_in-ne0-clause-value
-returns-then-start_time_in-ne0-clause-value c = sym (ap (option_map (λ p. p.1)) (facility_missing c.args.key c.args.self.now (rw c.start_time_in.ensures at c.if-start_time_in-ne0.true)))
+returns-then-start_time_in-ne0-clause-value c = sym (ap (option_map (λ p. p.1)) (typed_missing facilities c.args.key c.args.self.now (rw c.start_time_in.ensures at c.if-start_time_in-ne0.true)))
 
 pub returns-then-start_time_in-ne0-clause-rows : goal.returns-then-start_time_in-ne0-clause-rows
-returns-then-start_time_in-ne0-clause-rows c = facility_left_there c.args.key c.args.self.now (rw c.start_time_in.ensures at c.if-start_time_in-ne0.true)
+returns-then-start_time_in-ne0-clause-rows c = typed_left_there facilities c.args.key c.args.self.now (rw c.start_time_in.ensures at c.if-start_time_in-ne0.true)
 
 pub returns-clause-value : goal.returns-clause-value
-returns-clause-value c = c.remove.ensures.value ∙ rw (c.s_id_in.ensures, c.type_in.ensures) (facility_found c.args.key c.args.self.now (sym c.start_time_in.ensures ∙ c.if-start_time_in-ne0.false))
+returns-clause-value c = c.remove.ensures.value ∙ rw (c.s_id_in.ensures, c.type_in.ensures) (typed_found facilities c.args.key c.args.self.now (sym c.start_time_in.ensures ∙ c.if-start_time_in-ne0.false))
 
 pub returns-clause-rows : goal.returns-clause-rows
-returns-clause-rows c = rw (c.remove.ensures.rows, c.type_in.ensures) (facility_left c.args.key c.args.self.now (sym c.start_time_in.ensures ∙ c.if-start_time_in-ne0.false))
+returns-clause-rows c = rw (c.remove.ensures.rows, c.type_in.ensures) (typed_left facilities c.args.key c.args.self.now (sym c.start_time_in.ensures ∙ c.if-start_time_in-ne0.false))
 
 pub returns-clause-rules : goal.returns-clause-rules
-returns-clause-rules c = rw c.remove.ensures.rows (holds_without _ _ c.args.self.now c.requires)
+returns-clause-rules c = rw c.remove.ensures.rows (holds_without facilities _ _ c.args.self.now c.requires)

@@ -1,6 +1,6 @@
 use Rattle.group_tree.proofs.Common.{ℕ, ◌≡◌, ◌+◌, ◌*◌, ◌∙◌, Some, ap, arith, option_map, row_at, forwarding_start, forwarding_with, s_id_in, type_in}
-use Rattle.group_tree.proofs.HourLemmas.{rising}
-use Rattle.group_tree.proofs.PlacedLemmas.{found_listed, missing_listed}
+use Rattle.group_tree.proofs.ForwardingLemmas.{rising}
+use Rattle.group_tree.proofs.NumberedLemmas.{found_listed, missing_listed}
 use Rattle.group_tree.proofs.forwardings.ForwardingsGroupForwarding.row_in.Goals as goal
 
 pub returns-in_err-row : goal.returns-in_err-row

@@ -1,19 +1,13 @@
-use Rattle.row_groups.proofs.Common.{arith, get_or, refl, None, access_data, access_keys, access_row, access_type, access_with}
-use Rattle.row_groups.proofs.GroupLemmas.{put_free, put_refused}
-use Rattle.row_groups.proofs.FilledLemmas.{none_of, read_place}
+use Rattle.row_groups.proofs.Common.{◌∙◌, refl, sym, access_data, access_keys, access_row, access_type, access_with}
+use Rattle.row_groups.proofs.GroupLemmas.{type_put, type_refused}
 use Rattle.row_groups.proofs.accesses.Accesses.insert.Goals as goal
 
 pub returns-then-is_some : goal.returns-then-is_some
-returns-then-is_some c =
-    let within = c.place_of-place.ensures.within in
-    let read = read_place c.self.inside.places c.place_of-place.result c.index-self-place.result (omega (arith, c.self.invariant)) c.index-self-place.is in
-    rw (← c.self.view_is)
-    (put_refused access_row access_type (λ place. place) access_keys 1 c.place_of-place.result c.args.row.now.ai_type (access_with 0 c.args.row.now) c.self.inside.places (omega (arith, c.place_of-place.ensures.place)) refl (rw (← read, c.index-self-place.is, ← c.is_some.ensures) c.if-is_some.true))
+returns-then-is_some c = rw (← c.self.view_is)
+    (type_refused access_row access_type access_keys c.self.inside.places c.self.invariant c.place_of-place.result (access_with 0 c.args.row.now) c.place_of-place.ensures.place c.place_of-place.ensures.within c.index-self-place.result c.index-self-place.is
+    (sym c.is_some.ensures ∙ c.if-is_some.true))
 
 pub returns : goal.returns
-returns c =
-    let within = c.place_of-place.ensures.within in
-    let read = read_place c.self.inside.places c.place_of-place.result c.index-self-place.result (omega (arith, c.self.invariant)) c.index-self-place.is in
-    let free = none_of (get_or c.self.inside.places c.place_of-place.result None) (rw (← read, c.index-self-place.is, ← c.is_some.ensures) c.if-is_some.false) in
-    rw (← c.self.view_is, c.of.ensures)
-    (put_free access_row access_type (λ place. place) access_keys 1 c.place_of-place.result c.args.row.now.ai_type (access_data c.args.row.now) (access_with 0 c.args.row.now) c.self.inside.places (omega (arith, c.place_of-place.ensures.place)) refl (omega (arith, c.self.invariant)) free)
+returns c = rw (← c.self.view_is, c.of.ensures)
+    (type_put access_row access_type access_keys c.self.inside.places c.self.invariant c.place_of-place.result (access_with 0 c.args.row.now) c.place_of-place.ensures.place c.place_of-place.ensures.within c.index-self-place.result c.index-self-place.is
+    (access_data c.args.row.now) refl (sym c.is_some.ensures ∙ c.if-is_some.false))

@@ -12,4 +12,4 @@ returns-clause-found c =
     rw (← c.self.view_is, ← c.index-places-from.is, read) (sym (filled-found facility_row facility_type (λ place. place) facility_keys 1 (c.from.result - 1) c.args.sf_type c.self.inside.places (omega (arith, c.from.ensures))))
 
 pub returns-then-not-is_between-clause-found : goal.returns-then-not-is_between-clause-found
-returns-then-not-is_between-clause-found c = rw (← c.self.view_is) (sym (no_type facility_row facility_type facility_keys c.args.sf_type c.self.inside.places c.self.invariant (sym c.if-not-is_between.ensures)))
+returns-then-not-is_between-clause-found c = rw (← c.self.view_is) (sym (no_type facility_row facility_type facility_keys c.self.inside.places c.self.invariant c.args.sf_type (sym c.if-not-is_between.ensures)))
